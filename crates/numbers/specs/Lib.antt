@@ -1,0 +1,5 @@
+pub mod Cases
+pub mod Common
+pub mod Encoded
+pub mod Leb
+pub mod Orders
