@@ -1,0 +1,4 @@
+pub mod Acts
+pub mod Lengths
+pub mod Words
+pub mod Places
