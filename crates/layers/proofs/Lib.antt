@@ -1,0 +1,3 @@
+pub mod Caps
+pub mod Relocates
+pub mod Seeks
