@@ -1,0 +1,4 @@
+pub mod Acts
+pub mod Orders
+pub mod Texts
+pub mod Verbs
