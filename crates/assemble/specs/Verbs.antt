@@ -75,3 +75,34 @@ orderVerb (order.Run c) = callVerb c
 orderVerb (order.OpenLength format) = verb.OpenLength
 orderVerb (order.FillLength i n) = verb.FillLength
 orderVerb (order.GiveUp i) = verb.GiveUp
+
+-- the i-th argument is a number
+abbrev pub IsNumber : List (List ℕ) → ℕ → ℕ → Type 0
+IsNumber ws i n = numberOf (getD ws i []) ≡ Some n
+
+abbrev pub AddressFrom : Address → ℕ → List (List ℕ) → Type 0
+AddressFrom (Constant n) size ws = IsNumber ws 0 n × IsNumber ws 1 size
+AddressFrom (Symbol x a) size ws = IsNumber ws 0 x × (signedOf (getD ws 1 []) ≡ Some a) × IsNumber ws 2 size
+
+-- the arguments of each call, as they are written
+abbrev pub CallFrom : Call → List (List ℕ) → Type 0
+CallFrom (call.Bytes xs) ws = bytesNamed (getD ws 0 []) ≡ Some (vec-items xs)
+CallFrom (call.BytesAt at xs) ws = IsNumber ws 0 at × (bytesNamed (getD ws 1 []) ≡ Some (vec-items xs))
+CallFrom (call.U8 n) ws = IsNumber ws 0 n
+CallFrom (call.U16 n) ws = IsNumber ws 0 n
+CallFrom (call.U32 n) ws = IsNumber ws 0 n
+CallFrom (call.U64 n) ws = IsNumber ws 0 n
+CallFrom (call.U128 n) ws = joinedOf (getD ws 0 []) (getD ws 1 []) ≡ Some n
+CallFrom (call.U8At at n) ws = IsNumber ws 0 at × IsNumber ws 1 n
+CallFrom (call.U16At at n) ws = IsNumber ws 0 at × IsNumber ws 1 n
+CallFrom (call.U32At at n) ws = IsNumber ws 0 at × IsNumber ws 1 n
+CallFrom (call.U64At at n) ws = IsNumber ws 0 at × IsNumber ws 1 n
+CallFrom (call.U128At at n) ws = IsNumber ws 0 at × (joinedOf (getD ws 1 []) (getD ws 2 []) ≡ Some n)
+CallFrom (call.Udata n size) ws = IsNumber ws 0 n × IsNumber ws 1 size
+CallFrom (call.UdataAt at n size) ws = IsNumber ws 0 at × IsNumber ws 1 n × IsNumber ws 2 size
+CallFrom (call.Uleb128 n) ws = IsNumber ws 0 n
+CallFrom (call.Sleb128 z) ws = signedOf (getD ws 0 []) ≡ Some z
+CallFrom (call.Address a size) ws = AddressFrom a size ws
+CallFrom (call.Offset n x size) ws = IsNumber ws 0 n × (sectionName x ≡ getD ws 1 []) × IsNumber ws 2 size
+CallFrom (call.OffsetAt at n x size) ws = IsNumber ws 0 at × IsNumber ws 1 n × (sectionName x ≡ getD ws 2 []) × IsNumber ws 3 size
+CallFrom (call.Reference x size) ws = IsNumber ws 0 x × IsNumber ws 1 size

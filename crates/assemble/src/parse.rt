@@ -6,7 +6,8 @@ ghost use Rattle.std.specs.Vec.{made};
 ghost use Rattle.std.specs.declared.option.Option.the-variants.{None, Some};
 ghost use Rattle.assemble.specs.declared.verb.Verb.the-variants.{OpenLength, FillLength, GiveUp};
 ghost use Rattle.assemble.specs.Texts.{numberOf, signedOf, joinedOf};
-ghost use Rattle.assemble.specs.Verbs.{wordOf, callVerb, orderVerb};
+ghost use Rattle.assemble.specs.Verbs.{wordOf, callVerb, orderVerb, CallFrom};
+ghost use mathlib.Core.List.{[], _∷_};
 use super::call::Base;
 use super::call::Call;
 use super::call::Layers;
@@ -156,7 +157,8 @@ fn endian(text: &str) -> Result<RunTimeEndian, Complaint> {
 
 // A call of one argument.
 fn one_argument(heap: Global, verb: Verb, a: &str) -> Result<Call, Complaint>
-    ensures { λ r. ⌜ made r (λ c. callVerb c ≡ verb) ⌝ }
+    ensures named { λ r. ⌜ made r (λ x. callVerb x ≡ verb) ⌝ }
+    ensures reads { λ r. ⌜ made r (λ x. CallFrom x (now (a .entry) ∷ [])) ⌝ }
 {
     match verb {
         Verb::Bytes => Ok(Call::Bytes(hex_bytes(heap, a.as_bytes())?)),
@@ -171,35 +173,39 @@ fn one_argument(heap: Global, verb: Verb, a: &str) -> Result<Call, Complaint>
 }
 
 // A call in the middle of an offset and another argument.
-fn place_and_one(heap: Global, verb: Verb, at: usize, a: &str) -> Result<Call, Complaint>
-    ensures { λ r. ⌜ made r (λ c. callVerb c ≡ verb) ⌝ }
+fn place_and_one(heap: Global, verb: Verb, at: &str, a: &str) -> Result<Call, Complaint>
+    ensures named { λ r. ⌜ made r (λ x. callVerb x ≡ verb) ⌝ }
+    ensures reads { λ r. ⌜ made r (λ x. CallFrom x (now (at .entry) ∷ now (a .entry) ∷ [])) ⌝ }
 {
+    let place = index(at)?;
     match verb {
-        Verb::BytesAt => Ok(Call::BytesAt(at, hex_bytes(heap, a.as_bytes())?)),
-        Verb::U8At => Ok(Call::U8At(at, byte(a)?)),
-        Verb::U16At => Ok(Call::U16At(at, short(a)?)),
-        Verb::U32At => Ok(Call::U32At(at, half(a)?)),
-        Verb::U64At => Ok(Call::U64At(at, wide(a)?)),
+        Verb::BytesAt => Ok(Call::BytesAt(place, hex_bytes(heap, a.as_bytes())?)),
+        Verb::U8At => Ok(Call::U8At(place, byte(a)?)),
+        Verb::U16At => Ok(Call::U16At(place, short(a)?)),
+        Verb::U32At => Ok(Call::U32At(place, half(a)?)),
+        Verb::U64At => Ok(Call::U64At(place, wide(a)?)),
         _ => Err(Complaint::WordCount),
     }
 }
 
 // A call of two arguments.
 fn two_arguments(heap: Global, verb: Verb, a: &str, b: &str) -> Result<Call, Complaint>
-    ensures { λ r. ⌜ made r (λ c. callVerb c ≡ verb) ⌝ }
+    ensures named { λ r. ⌜ made r (λ x. callVerb x ≡ verb) ⌝ }
+    ensures reads { λ r. ⌜ made r (λ x. CallFrom x (now (a .entry) ∷ now (b .entry) ∷ [])) ⌝ }
 {
     match verb {
         Verb::U128 => Ok(Call::U128(joined(a, b)?)),
         Verb::Udata => Ok(Call::Udata(wide(a)?, byte(b)?)),
         Verb::Address => Ok(Call::Address(Address::Constant(wide(a)?), byte(b)?)),
         Verb::Reference => Ok(Call::Reference(index(a)?, byte(b)?)),
-        _ => place_and_one(heap, verb, index(a)?, b),
+        _ => place_and_one(heap, verb, a, b),
     }
 }
 
 // A call of three arguments.
 fn three_arguments(verb: Verb, a: &str, b: &str, c: &str) -> Result<Call, Complaint>
-    ensures { λ r. ⌜ made r (λ x. callVerb x ≡ verb) ⌝ }
+    ensures named { λ r. ⌜ made r (λ x. callVerb x ≡ verb) ⌝ }
+    ensures reads { λ r. ⌜ made r (λ x. CallFrom x (now (a .entry) ∷ now (b .entry) ∷ now (c .entry) ∷ [])) ⌝ }
 {
     let first = index(a)?;
     match verb {
@@ -207,7 +213,13 @@ fn three_arguments(verb: Verb, a: &str, b: &str, c: &str) -> Result<Call, Compla
         Verb::UdataAt => Ok(Call::UdataAt(first, wide(b)?, byte(c)?)),
         Verb::AddressSymbol => {
             let addend = whole(b)?;
-            Ok(Call::Address(Address::Symbol { symbol: first, addend }, byte(c)?))
+            Ok(Call::Address(
+                Address::Symbol {
+                    symbol: first,
+                    addend,
+                },
+                byte(c)?,
+            ))
         }
         Verb::Offset => Ok(Call::Offset(first, section_named(b)?, byte(c)?)),
         _ => Err(Complaint::WordCount),
@@ -215,11 +227,23 @@ fn three_arguments(verb: Verb, a: &str, b: &str, c: &str) -> Result<Call, Compla
 }
 
 // A call of four arguments.
-fn four_arguments(verb: Verb, at: &str, n: &str, section: &str, size: &str) -> Result<Call, Complaint>
-    ensures { λ r. ⌜ made r (λ x. callVerb x ≡ verb) ⌝ }
+fn four_arguments(
+    verb: Verb,
+    at: &str,
+    n: &str,
+    section: &str,
+    size: &str,
+) -> Result<Call, Complaint>
+    ensures named { λ r. ⌜ made r (λ x. callVerb x ≡ verb) ⌝ }
+    ensures reads { λ r. ⌜ made r (λ x. CallFrom x (now (at .entry) ∷ now (n .entry) ∷ now (section .entry) ∷ now (size .entry) ∷ [])) ⌝ }
 {
     match verb {
-        Verb::OffsetAt => Ok(Call::OffsetAt(index(at)?, index(n)?, section_named(section)?, byte(size)?)),
+        Verb::OffsetAt => Ok(Call::OffsetAt(
+            index(at)?,
+            index(n)?,
+            section_named(section)?,
+            byte(size)?,
+        )),
         _ => Err(Complaint::WordCount),
     }
 }
