@@ -1,3 +1,5 @@
+#![tactic(auto)]
+
 // Assembles sections call by call, as a script on standard input says.
 mod answer;
 mod apply;

@@ -1,3 +1,5 @@
+#![tactic(auto)]
+
 mod notes;
 mod quota;
 mod relocating;

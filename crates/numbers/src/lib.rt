@@ -1,3 +1,5 @@
+#![tactic(auto)]
+
 mod common;
 mod endianity;
 mod leb128;

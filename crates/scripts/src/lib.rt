@@ -1,3 +1,5 @@
+#![tactic(auto)]
+
 // The script of a session: its calls and values, read from words; and DWARF's names.
 pub mod call;
 pub mod calls;

@@ -1,3 +1,5 @@
+#![tactic(auto)]
+
 // A session: the calls of a script, performed on a table and shown.
 pub mod apply;
 pub mod looks;

@@ -1,3 +1,5 @@
+#![tactic(auto)]
+
 // Words of a script: numbers and bytes as text.
 pub mod bad_word;
 mod digits;

@@ -1,3 +1,5 @@
+#![tactic(auto)]
+
 mod attributes;
 mod calls;
 mod counts;

@@ -1,3 +1,5 @@
+#![tactic(auto)]
+
 // Builds a table of DWARF units call by call, as a script on standard input says.
 mod report;
 mod run;

@@ -1,3 +1,5 @@
+#![tactic(auto)]
+
 mod memory;
 mod page;
 mod plain;

@@ -5,7 +5,7 @@ use Rattle.assemble.proofs.digits.pairs.Goals as goal
 
 pub loop-i-preserved : goal.loop-i-preserved
 loop-i-preserved c =
-    byte_more (vec_items c.loop-i.bytes) (vec_items c.push.new.self) c.args.text.now c.loop-i.i c.in-Some.b (bytes_from c.args.text.now) c.loop-i-test.true c.loop-i.invariant c.in-Some.ensures c.in-ok-push.ensures.items
+    byte_more (vec_items c.loop-i.bytes) (vec_items c.push.new.self) c.args.text.now c.loop-i.i c.in-Some.b (bytes_from c.args.text.now) c.loop-i-test.true c.loop-i.invariant c.in-Some.ensures c.in_ok-push.ensures.items
 
 pub returns : goal.returns
 returns c =

@@ -7,9 +7,9 @@ pub loop-entry-preserved : goal.loop-entry-preserved
 loop-entry-preserved g c =
     lines_more g.L.LinkWriter.relocates c.args.entries.now c.loop-entry.entry-index c.entry-item.result
     (g.L.Writer.meaning c.loop-entry.w, vec_items c.loop-entry.slots)
-    (g.L.Writer.meaning c.run-entry.new.w, vec_items c.run-entry.new.slots)
+    (g.L.Writer.meaning c.run_entry.new.w, vec_items c.run_entry.new.slots)
     (lines_done g.L.LinkWriter.relocates c.args.entries.now (g.L.Writer.meaning c.args.w.now, vec_items c.args.slots.now))
-    c.loop-entry-test.true c.entry-item.is c.in-ok-run-entry.ensures c.loop-entry.invariant
+    c.loop-entry-test.true c.entry-item.is c.in_ok-run_entry.ensures c.loop-entry.invariant
 
 pub returns : goal.returns
 returns g c =

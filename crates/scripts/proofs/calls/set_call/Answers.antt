@@ -10,12 +10,12 @@ returns c = record {
   verb = refl;
   reads = (
     (
-      ap number_of (text_at c.args.words.now 0) ∙ c.in-ok-entry.ensures.0,
-      ap number_of (text_at c.args.words.now 1) ∙ c.in-ok-entry.ensures.1,
+      ap number_of (text_at c.args.words.now 0) ∙ c.in_ok-entry.ensures.0,
+      ap number_of (text_at c.args.words.now 1) ∙ c.in_ok-entry.ensures.1,
     ),
-    ap number_of (text_at c.args.words.now 2) ∙ c.in-ok-name.ensures,
-    text_at c.args.words.now 3 ∙ sym c.in-Some.ensures ∙ ap word_of (sym c.in-ok-value.ensures.kind),
-    subst (λ ws. ValueFrom c.in-ok-value.value ws (vec_items c.kind-value.new.pool)) (texts_from c.args.words.now 4) c.in-ok-value.ensures.reads,
+    ap number_of (text_at c.args.words.now 2) ∙ c.in_ok-name.ensures,
+    text_at c.args.words.now 3 ∙ sym c.in-Some.ensures ∙ ap word_of (sym c.in_ok-value.ensures.kind),
+    subst (λ ws. ValueFrom c.in_ok-value.value ws (vec_items c.kind_value.new.pool)) (texts_from c.args.words.now 4) c.in_ok-value.ensures.reads,
   );
-  grows = c.in-ok-value.ensures.grows;
+  grows = c.in_ok-value.ensures.grows;
 }

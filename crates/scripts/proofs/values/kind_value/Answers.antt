@@ -5,21 +5,21 @@ use Rattle.scripts.proofs.values.kind_value.Goals as goal
 
 pub returns-in-0 : goal.returns-in-0
 returns-in-0 c = record {
-  kind = c.bare-value.ensures.kind;
-  reads = subst (λ ws. IfOk c.bare-value.result (λ v. ValueFrom v ws (vec_items c.args.pool.now))) (sym (no_words c.args.words.now c.in-0.is)) (c.bare-value.ensures.reads (vec_items c.args.pool.now));
+  kind = c.bare_value.ensures.kind;
+  reads = subst (λ ws. IfOk c.bare_value.result (λ v. ValueFrom v ws (vec_items c.args.pool.now))) (sym (no_words c.args.words.now c.in-0.is)) (c.bare_value.ensures.reads (vec_items c.args.pool.now));
   grows = ([], sym (append-nil (vec_items c.args.pool.now)));
 }
 
 pub returns-in-1 : goal.returns-in-1
 returns-in-1 c = record {
-  kind = c.word-value.ensures.kind;
-  reads = subst (λ ws. IfOk c.word-value.result (λ v. ValueFrom v ws (vec_items c.word-value.new.pool))) (sym (one_word c.args.words.now c.in-1.is)) c.word-value.ensures.reads;
-  grows = c.word-value.ensures.grows;
+  kind = c.word_value.ensures.kind;
+  reads = subst (λ ws. IfOk c.word_value.result (λ v. ValueFrom v ws (vec_items c.word_value.new.pool))) (sym (one_word c.args.words.now c.in-1.is)) c.word_value.ensures.reads;
+  grows = c.word_value.ensures.grows;
 }
 
 pub returns-in-2 : goal.returns-in-2
 returns-in-2 c = record {
-  kind = c.pair-value.ensures.kind;
-  reads = subst (λ ws. IfOk c.pair-value.result (λ v. ValueFrom v ws (vec_items c.args.pool.now))) (sym (two_words c.args.words.now c.in-2.is)) (c.pair-value.ensures.reads (vec_items c.args.pool.now));
+  kind = c.pair_value.ensures.kind;
+  reads = subst (λ ws. IfOk c.pair_value.result (λ v. ValueFrom v ws (vec_items c.args.pool.now))) (sym (two_words c.args.words.now c.in-2.is)) (c.pair_value.ensures.reads (vec_items c.args.pool.now));
   grows = ([], sym (append-nil (vec_items c.args.pool.now)));
 }

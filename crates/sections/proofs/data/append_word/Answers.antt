@@ -3,11 +3,11 @@ use Rattle.std.proofs.lemmas.Result.{err_from_is_err_and}
 use Rattle.sections.proofs.Words.{udata_declined, udata_ran}
 use Rattle.sections.proofs.data.append_word.Goals as goal
 
-pub returns-in-err-check-word : goal.returns-in-err-check-word
-returns-in-err-check-word g c =
-    let p = err_from_is_err_and c.from-residual.result c.from-residual.ensures.1 in
-    rw (p.1, p.2) (udata_declined c.args.val c.args.size _ _ (sym c.in-err-check-word.ensures))
+pub returns-in_err-check_word : goal.returns-in_err-check_word
+returns-in_err-check_word g c =
+    let p = err_from_is_err_and c.from_residual.result c.from_residual.ensures.1 in
+    rw (p.1, p.2) (udata_declined c.args.val c.args.size _ _ (sym c.in_err-check_word.ensures))
 
 pub returns : goal.returns
 returns g c =
-    udata_ran c.args.val c.args.size _ _ _ _ _ _ (sym c.in-ok-check-word.ensures) (search rules) c.endian-endian.ensures c.encode-u64.ensures c.word-bytes.ensures c.write.ensures
+    udata_ran c.args.val c.args.size _ _ _ _ _ _ (sym c.in_ok-check_word.ensures) (search rules) c.endian-endian.ensures c.encode_u64.ensures c.word_bytes.ensures c.write.ensures

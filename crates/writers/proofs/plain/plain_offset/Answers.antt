@@ -3,4 +3,4 @@ use Rattle.writers.proofs.plain.plain_offset.Goals as goal
 
 pub returns : goal.returns
 unfolding offset udata
-returns g c = c.write-udata.ensures
+returns g c = c.write_udata.ensures

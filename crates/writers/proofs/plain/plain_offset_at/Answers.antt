@@ -3,4 +3,4 @@ use Rattle.writers.proofs.plain.plain_offset_at.Goals as goal
 
 pub returns : goal.returns
 unfolding offset_at udata_at
-returns g c = c.write-udata-at.ensures
+returns g c = c.write_udata_at.ensures

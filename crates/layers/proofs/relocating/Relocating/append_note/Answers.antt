@@ -11,15 +11,15 @@ use Rattle.layers.proofs.relocating.Relocating.append_note.Goals as goal
 pub returns-then-left-size : goal.returns-then-left-size
 returns-then-left-size g c = end_full c.args.size c.args.target c.args.addend _ (omega arith)
 
-pub returns-then-not-has-room : goal.returns-then-not-has-room
-returns-then-not-has-room g c =
+pub returns-then-not-has_room : goal.returns-then-not-has_room
+returns-then-not-has_room g c =
     let s : Section = relocated c.args.self.now.notes (g.W.Writer.meaning c.args.self.now.inner) in
-    let r : (no_note (length s.bytes) s).0 ≡ true = ap (λ j. (no_note j s).0) (sym c.len-place.ensures) ∙ ap not (sym c.has-room.ensures.is ∙ c.if-not-has-room.true) in
+    let r : (no_note (length s.bytes) s).0 ≡ true = ap (λ j. (no_note j s).0) (sym c.len-place.ensures) ∙ ap not (sym c.has_room.ensures.is ∙ c.if-not-has_room.true) in
     end_none c.args.size c.args.target c.args.addend s (omega arith) r
 
-pub returns-in-err-write : goal.returns-in-err-write
-returns-in-err-write g c =
-    absurd (append_never c.zeros.result.now (g.W.Writer.meaning c.args.self.now.inner) _ _ (omega (arith, ap length c.zeros.ensures, length-replicate {A = ℕ} c.args.size 0)) c.in-err-write.ensures)
+pub returns-in_err-write : goal.returns-in_err-write
+returns-in_err-write g c =
+    absurd (append_never c.zeros.result.now (g.W.Writer.meaning c.args.self.now.inner) _ _ (omega (arith, ap length c.zeros.ensures, length-replicate {A = ℕ} c.args.size 0)) c.in_err-write.ensures)
 
 pub returns : goal.returns
 returns g c =
@@ -28,5 +28,5 @@ returns g c =
     let s : Section = relocated c.args.self.now.notes (g.W.Writer.meaning c.args.self.now.inner) in
     ap (λ a. note_end c.args.size c.args.target a s) (sym same)
     ∙ relocated_end c.args.self.now.notes c.put.new.notes (g.W.Writer.meaning c.args.self.now.inner) (g.W.Writer.meaning c.write.new.self) c.args.size c.len-place.result c.args.target addend c.zeros.result.now
-    c.len-place.ensures (omega arith) (ap not (sym c.has-room.ensures.is ∙ c.if-not-has-room.false))
-    c.zeros.ensures c.in-ok-write.ensures c.put.ensures.list c.put.ensures.used
+    c.len-place.ensures (omega arith) (ap not (sym c.has_room.ensures.is ∙ c.if-not-has_room.false))
+    c.zeros.ensures c.in_ok-write.ensures c.put.ensures.list c.put.ensures.used

@@ -5,11 +5,11 @@ use Rattle.std.proofs.lemmas.Int.{to_z_pos}
 use Rattle.layers.proofs.Relocates.{offset_declined, offset_noted}
 use Rattle.layers.proofs.relocating.Relocating.note_offset.Goals as goal
 
-pub returns-in-err-check-word : goal.returns-in-err-check-word
-returns-in-err-check-word g c =
-    let p = err_from_is_err_and c.from-residual.result c.from-residual.ensures.1 in
-    rw (p.1, p.2) (offset_declined c.args.val c.args.section c.args.size _ _ (sym c.in-err-check-word.ensures))
+pub returns-in_err-check_word : goal.returns-in_err-check_word
+returns-in_err-check_word g c =
+    let p = err_from_is_err_and c.from_residual.result c.from_residual.ensures.1 in
+    rw (p.1, p.2) (offset_declined c.args.val c.args.section c.args.size _ _ (sym c.in_err-check_word.ensures))
 
 pub returns : goal.returns
 returns g c =
-    offset_noted c.args.val c.args.section c.args.size _ _ _ _ (sym c.in-ok-check-word.ensures) (to_z_pos w128 c.args.val (omega arith)) c.append-note.ensures
+    offset_noted c.args.val c.args.section c.args.size _ _ _ _ (sym c.in_ok-check_word.ensures) (to_z_pos w128 c.args.val (omega arith)) c.append_note.ensures

@@ -4,4 +4,4 @@ use Rattle.layers.proofs.relocating.Relocating.note_reference.Goals as goal
 
 pub returns : goal.returns
 unfolding reference symbol_end
-returns g c = c.append-symbol.ensures
+returns g c = c.append_symbol.ensures

@@ -14,13 +14,13 @@ returns-then-at-n g c = into_past c.args.at c.args.size c.args.target c.args.add
 pub returns-then-size-n : goal.returns-then-size-n
 returns-then-size-n g c = into_over c.args.at c.args.size c.args.target c.args.addend _ (omega arith) (omega arith)
 
-pub returns-then-not-has-room : goal.returns-then-not-has-room
-returns-then-not-has-room g c =
-    into_none c.args.at c.args.size c.args.target c.args.addend _ (omega arith) (ap not (sym c.has-room.ensures.is ∙ c.if-not-has-room.true))
+pub returns-then-not-has_room : goal.returns-then-not-has_room
+returns-then-not-has_room g c =
+    into_none c.args.at c.args.size c.args.target c.args.addend _ (omega arith) (ap not (sym c.has_room.ensures.is ∙ c.if-not-has_room.true))
 
-pub returns-in-err-write-at : goal.returns-in-err-write-at
-returns-in-err-write-at g c =
-    absurd (place_never c.args.at c.zeros.result.now (g.W.Writer.meaning c.args.self.now.inner) _ _ (omega (arith, ap length c.zeros.ensures, length-replicate {A = ℕ} c.args.size 0)) c.in-err-write-at.ensures)
+pub returns-in_err-write_at : goal.returns-in_err-write_at
+returns-in_err-write_at g c =
+    absurd (place_never c.args.at c.zeros.result.now (g.W.Writer.meaning c.args.self.now.inner) _ _ (omega (arith, ap length c.zeros.ensures, length-replicate {A = ℕ} c.args.size 0)) c.in_err-write_at.ensures)
 
 pub returns : goal.returns
 returns g c =
@@ -28,6 +28,6 @@ returns g c =
     let same : addend ≡ c.args.addend = to_z-of_z w128 c.args.addend c.ranges.addend in
     let s : Section = relocated c.args.self.now.notes (g.W.Writer.meaning c.args.self.now.inner) in
     ap (λ a. note_into c.args.at c.args.size c.args.target a s) (sym same)
-    ∙ relocated_into c.args.self.now.notes c.put.new.notes (g.W.Writer.meaning c.args.self.now.inner) (g.W.Writer.meaning c.write-at.new.self) c.args.size c.args.at c.args.target addend c.zeros.result.now
-    (omega arith) (ap not (sym c.has-room.ensures.is ∙ c.if-not-has-room.false))
-    c.zeros.ensures c.in-ok-write-at.ensures c.put.ensures.list c.put.ensures.used
+    ∙ relocated_into c.args.self.now.notes c.put.new.notes (g.W.Writer.meaning c.args.self.now.inner) (g.W.Writer.meaning c.write_at.new.self) c.args.size c.args.at c.args.target addend c.zeros.result.now
+    (omega arith) (ap not (sym c.has_room.ensures.is ∙ c.if-not-has_room.false))
+    c.zeros.ensures c.in_ok-write_at.ensures c.put.ensures.list c.put.ensures.used

@@ -3,7 +3,7 @@ use Rattle.numbers.specs.OrdersLemmas.{writes_big, writes_little}
 use Rattle.numbers.proofs.endianity.bytes.bytes_u64.Goals as goal
 
 pub returns-then-big : goal.returns-then-big
-returns-then-big c = writes_big 8 _ _ _ (sym c.if-big.true) c.to-be-bytes.ensures
+returns-then-big c = writes_big 8 _ _ _ (sym c.if-big.true) c.to_be_bytes.ensures
 
 pub returns-else-big : goal.returns-else-big
-returns-else-big c = writes_little 8 _ _ _ (sym c.if-big.false) c.to-le-bytes.ensures
+returns-else-big c = writes_little 8 _ _ _ (sym c.if-big.false) c.to_le_bytes.ensures

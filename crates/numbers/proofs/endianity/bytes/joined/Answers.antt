@@ -9,8 +9,8 @@ filled xs ys h =
     ∙ ap (λ zs. xs ++ (ys ++ drop 8 zs)) (drop_at xs (replicate 8 0) 8 h)
     ∙ ap (λ zs. xs ++ zs) (append-nil ys)
 
-pub slice-bounds-bytes-end-2 : goal.slice-bounds-bytes-end-2
-slice-bounds-bytes-end-2 c = simp length-append (omega arith)
+pub slice_bounds-bytes-end-2 : goal.slice_bounds-bytes-end-2
+slice_bounds-bytes-end-2 c = simp length-append (omega arith)
 
 pub returns : goal.returns
-returns c = filled _ _ c.copy-from-slice.ensures.len ∙ cc
+returns c = filled _ _ c.copy_from_slice.ensures.len ∙ cc

@@ -4,8 +4,8 @@ use Rattle.numbers.proofs.endianity.bytes.value_u64.Goals as goal
 
 pub returns-then-big : goal.returns-then-big
 returns-then-big c =
-    reads_big 8 _ _ _ (sym c.if-big.true) (omega arith) (omega (arith, c.from-be-bytes.ensures))
+    reads_big 8 _ _ _ (sym c.if-big.true) (omega arith) (omega (arith, c.from_be_bytes.ensures))
 
 pub returns-else-big : goal.returns-else-big
 returns-else-big c =
-    reads_little 8 _ _ _ (sym c.if-big.false) (omega arith) (omega (arith, c.from-le-bytes.ensures))
+    reads_little 8 _ _ _ (sym c.if-big.false) (omega arith) (omega (arith, c.from_le_bytes.ensures))

@@ -13,13 +13,13 @@ loop-bytes-init c = (omega arith, refl, omega arith, refl)
 pub loop-bytes-preserved : goal.loop-bytes-preserved
 loop-bytes-preserved c =
     let l = c.loop-bytes in
-    let next = c.rest-unsigned-val.ensures in
+    let next = c.rest_unsigned-val.ensures in
     let long = ltb-false l.val 128 (sym c.loop-bytes-test.ensures) in
     let left = uleb_left l.len l.val l.invariant.0 long l.invariant.2 in (
       left.0,
       length-set l.bytes _ _ ∙ l.invariant.1,
       subst (λ n. n < 128 ^ (10 - (l.len + 1))) (sym next) left.1,
-      uleb_pushed l.bytes l.len l.val _ _ _ l.invariant.0 l.invariant.1 long (c.continued.ensures ∙ ap (λ d. d + 128) c.low-bits.ensures) next l.invariant.3,
+      uleb_pushed l.bytes l.len l.val _ _ _ l.invariant.0 l.invariant.1 long (c.continued.ensures ∙ ap (λ d. d + 128) c.low_bits.ensures) next l.invariant.3,
     )
 
 pub returns : goal.returns

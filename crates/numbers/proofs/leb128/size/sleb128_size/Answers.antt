@@ -12,7 +12,7 @@ loop-len-init c = (omega arith, rw (to_z-of_z w64 c.args.val c.ranges.val) (omeg
 pub loop-len-preserved : goal.loop-len-preserved
 loop-len-preserved c =
     let l = c.loop-len in
-    let next = to_z-of_z w64 c.rest-signed-val.result (record { sfits = c.rest-signed-val.type-inv }) ∙ c.rest-signed-val.ensures in
+    let next = to_z-of_z w64 c.rest_signed-val.result (record { sfits = c.rest_signed-val.type_inv }) ∙ c.rest_signed-val.ensures in
     let long = sym c.loop-len-test.ensures in
     let left = sleb_left l.len _ l.invariant.0 long l.invariant.1 in (
       left.0,

@@ -11,7 +11,7 @@ loop-len-init c = (omega arith, omega arith, omega arith)
 pub loop-len-preserved : goal.loop-len-preserved
 loop-len-preserved c =
     let l = c.loop-len in
-    let next = c.rest-unsigned-val.ensures in
+    let next = c.rest_unsigned-val.ensures in
     let long = ltb-false l.val 128 (sym c.loop-len-test.ensures) in
     let left = uleb_left l.len l.val l.invariant.0 long l.invariant.1 in (
       left.0,

@@ -41,7 +41,7 @@ overflow-cast-next c =
     let k = turn_in c.args.self.now c.requires.sound c.args.p c.requires.parent c.loop-cur.self c.loop-cur.prev c.loop-cur.cur c.loop-cur.invariant in
     let z = c.loop-cur.invariant.sound.entries_fit in omega arith
 
-pub offset-bounds-self-cur : goal.offset-bounds-self-cur
-offset-bounds-self-cur c =
+pub offset_bounds-self-cur : goal.offset_bounds-self-cur
+offset_bounds-self-cur c =
     let k = turn_in c.args.self.now c.requires.sound c.args.p c.requires.parent c.loop-cur.self c.loop-cur.prev c.loop-cur.cur c.loop-cur.invariant in
     let z = c.loop-cur.invariant.sound.entries_fit in omega arith

@@ -24,13 +24,13 @@ bounds-self-at c =
     let w = onward s.attributes.now c.loop-at.at i.0 i.1 c.loop-at-test.true in
     omega (arith, w.inside)
 
-pub returns-then-names-file : goal.returns-then-names-file
+pub returns-then-names_file : goal.returns-then-names_file
 unfolding nil
-returns-then-names-file c =
+returns-then-names_file c =
     let s = c.args.self.now in
     let i = c.loop-at.invariant in
     let w = onward s.attributes.now c.loop-at.at i.0 i.1 c.loop-at-test.true in
-    sym (file_here s.attributes.now c.loop-at.at w (sym c.names-file.ensures ∙ c.if-names-file.true)) ∙ i.2
+    sym (file_here s.attributes.now c.loop-at.at w (sym c.names_file.ensures ∙ c.if-names_file.true)) ∙ i.2
 
 pub loop-at-smaller : goal.loop-at-smaller
 unfolding nil
@@ -46,7 +46,7 @@ loop-at-preserved c =
     let s = c.args.self.now in
     let i = c.loop-at.invariant in
     let w = onward s.attributes.now c.loop-at.at i.0 i.1 c.loop-at-test.true in
-    (w.ends, w.lie, file_later s.attributes.now c.loop-at.at w (sym c.names-file.ensures ∙ c.if-names-file.false) ∙ i.2)
+    (w.ends, w.lie, file_later s.attributes.now c.loop-at.at w (sym c.names_file.ensures ∙ c.if-names_file.false) ∙ i.2)
 
 pub returns : goal.returns
 unfolding nil

@@ -9,5 +9,5 @@ pub returns : goal.returns
 returns c =
     let s = c.args.self.now in
     let r = touched s.units.now s.unit_count s.entries.now s.entry_count s.attributes.now s.attribute_count s.free (length s.pool.now) c.requires.sound
-    c.store-flag.new.entries c.args.e (with_sibling c.args.sibling) (flagged c.args.sibling) c.requires.used c.store-flag.ensures (λ r. (refl, refl, refl, refl, refl, refl)) refl (λ z. z) (λ r A C. refl) in
+    c.store_flag.new.entries c.args.e (with_sibling c.args.sibling) (flagged c.args.sibling) c.requires.used c.store_flag.ensures (λ r. (refl, refl, refl, refl, refl, refl)) refl (λ z. z) (λ r A C. refl) in
     record { sound = r.0; view = same_table r.1 (ap (λ (l : ℕ). l - s.entry_count) r.2) (ap (λ (x : List ℕ). (length s.attributes.now - s.attribute_count) + length x) r.3) }

@@ -14,7 +14,7 @@ returns c =
     let u = c.args.u in
     let x = as_written (get_or us u no_unit) in
     let h : u < length us = (let z = c.requires.sound.units_fit in let y = c.requires.used in omega arith) in
-    let q = c.store-written.ensures in
+    let q = c.store_written.ensures in
     record {
       sound = subst (λ (v : List UnitRecord). Sound v s.unit_count s.entries.now s.entry_count s.attributes.now s.attribute_count s.free (length s.pool.now)) (sym q) (mark_sound us s.unit_count s.entries.now s.entry_count s.attributes.now s.attribute_count s.free (length s.pool.now) c.requires.sound u x h refl);
       view = same_all (ap (take s.unit_count) q ∙ (take_set_in us s.unit_count u x c.requires.used c.requires.sound.units_fit.0 ∙ ap (λ (v : UnitRecord). set (take s.unit_count us) u (as_written v)) (sym (view_unit s u c.requires.used)))) refl (ap (λ (v : List UnitRecord). length v - s.unit_count) q ∙ ap (λ (l : ℕ). l - s.unit_count) (length-set us u x)) refl refl;

@@ -4,9 +4,9 @@ use Rattle.trees.proofs.Trees.{last_placed, placed_first, placed_after}
 use Rattle.trees.proofs.Tables.{same_table}
 use Rattle.trees.proofs.records.Records.place.Goals as goal
 
-pub link-after-requires : goal.link-after-requires
+pub link_after-requires : goal.link_after-requires
 unfolding nil
-link-after-requires c =
+link_after-requires c =
     let s = c.args.self.now in
     let l = last_placed s.units.now s.unit_count s.entries.now s.entry_count s.attributes.now s.attribute_count s.free (length s.pool.now) c.requires.sound c.args.c c.args.p c.args.tag c.requires.child c.requires.parent c.if-last.false in
     let z = c.requires.sound.entries_fit in
@@ -17,7 +17,7 @@ unfolding nil
 returns-then-last c =
     let s = c.args.self.now in
     let r = placed_first s.units.now s.unit_count s.entries.now s.entry_count s.attributes.now s.attribute_count s.free (length s.pool.now) c.requires.sound
-    c.link-first.new.entries c.args.c c.args.p c.args.tag c.requires.child c.requires.parent c.requires.waits c.requires.same c.if-last.true c.link-first.ensures in
+    c.link_first.new.entries c.args.c c.args.p c.args.tag c.requires.child c.requires.parent c.requires.waits c.requires.same c.if-last.true c.link_first.ensures in
     record { sound = r.0; view = same_table r.1 (ap (λ (l : ℕ). l - s.entry_count) r.2) (ap (λ (x : List ℕ). (length s.attributes.now - s.attribute_count) + length x) r.3) }
 
 pub returns-else-last : goal.returns-else-last
@@ -25,5 +25,5 @@ unfolding nil
 returns-else-last c =
     let s = c.args.self.now in
     let r = placed_after s.units.now s.unit_count s.entries.now s.entry_count s.attributes.now s.attribute_count s.free (length s.pool.now) c.requires.sound
-    c.link-after.new.entries c.args.c c.args.p c.args.tag c.requires.child c.requires.parent c.requires.waits c.requires.same c.if-last.false c.link-after.ensures in
+    c.link_after.new.entries c.args.c c.args.p c.args.tag c.requires.child c.requires.parent c.requires.waits c.requires.same c.if-last.false c.link_after.ensures in
     record { sound = r.0; view = same_table r.1 (ap (λ (l : ℕ). l - s.entry_count) r.2) (ap (λ (x : List ℕ). (length s.attributes.now - s.attribute_count) + length x) r.3) }

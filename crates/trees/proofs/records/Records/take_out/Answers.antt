@@ -4,17 +4,17 @@ use Rattle.trees.proofs.Cuts.{cut_in, prev_in, taken_first, taken_after}
 use Rattle.trees.proofs.Tables.{same_table}
 use Rattle.trees.proofs.records.Records.take_out.Goals as goal
 
-pub unlink-first-requires : goal.unlink-first-requires
+pub unlink_first-requires : goal.unlink_first-requires
 unfolding nil
-unlink-first-requires c =
+unlink_first-requires c =
     let s = c.args.self.now in
     let k = cut_in s.units.now s.unit_count s.entries.now s.entry_count s.attributes.now s.attribute_count s.free (length s.pool.now) c.requires.sound c.args.c c.args.p c.args.before c.requires.parent c.requires.before in
     let z = c.requires.sound.entries_fit in
     omega arith
 
-pub unlink-after-requires : goal.unlink-after-requires
+pub unlink_after-requires : goal.unlink_after-requires
 unfolding nil
-unlink-after-requires c =
+unlink_after-requires c =
     let s = c.args.self.now in
     let k = cut_in s.units.now s.unit_count s.entries.now s.entry_count s.attributes.now s.attribute_count s.free (length s.pool.now) c.requires.sound c.args.c c.args.p c.args.before c.requires.parent c.requires.before in
     let j = prev_in s.units.now s.unit_count s.entries.now s.entry_count s.attributes.now s.attribute_count s.free (length s.pool.now) c.requires.sound c.args.c c.args.p c.args.before c.requires.parent c.requires.before c.if-before-eq-NIL.false in
@@ -26,7 +26,7 @@ unfolding nil
 returns-then-before-eq-NIL c =
     let s = c.args.self.now in
     let r = taken_first s.units.now s.unit_count s.entries.now s.entry_count s.attributes.now s.attribute_count s.free (length s.pool.now) c.requires.sound
-    c.unlink-first.new.entries c.args.c c.args.p c.args.before c.requires.parent c.requires.before c.if-before-eq-NIL.true c.unlink-first.ensures in
+    c.unlink_first.new.entries c.args.c c.args.p c.args.before c.requires.parent c.requires.before c.if-before-eq-NIL.true c.unlink_first.ensures in
     record { sound = r.0; view = same_table r.1 (ap (λ (l : ℕ). l - s.entry_count) r.2) (ap (λ (x : List ℕ). (length s.attributes.now - s.attribute_count) + length x) r.3) }
 
 pub returns-else-before-eq-NIL : goal.returns-else-before-eq-NIL
@@ -34,5 +34,5 @@ unfolding nil
 returns-else-before-eq-NIL c =
     let s = c.args.self.now in
     let r = taken_after s.units.now s.unit_count s.entries.now s.entry_count s.attributes.now s.attribute_count s.free (length s.pool.now) c.requires.sound
-    c.unlink-after.new.entries c.args.c c.args.p c.args.before c.requires.parent c.requires.before c.if-before-eq-NIL.false c.unlink-after.ensures in
+    c.unlink_after.new.entries c.args.c c.args.p c.args.before c.requires.parent c.requires.before c.if-before-eq-NIL.false c.unlink_after.ensures in
     record { sound = r.0; view = same_table r.1 (ap (λ (l : ℕ). l - s.entry_count) r.2) (ap (λ (x : List ℕ). (length s.attributes.now - s.attribute_count) + length x) r.3) }

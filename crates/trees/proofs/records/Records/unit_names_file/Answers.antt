@@ -7,16 +7,16 @@ use Rattle.trees.specs.View.{view}
 use Rattle.trees.proofs.Edits.{view_count, view_entry}
 use Rattle.trees.proofs.Counting.{unit_file_here, unit_file_later}
 use Rattle.trees.proofs.records.Records.unit_names_file.Goals as goal
-use Rattle.trees.proofs.records.Records.unit_names_file.Goals.{then-self-e+else-entry-names-file, else-self-e}
+use Rattle.trees.proofs.records.Records.unit_names_file.Goals.{then-self-e+else-entry_names_file, else-self-e}
 
-pub returns-then-entry-names-file : goal.returns-then-entry-names-file
-returns-then-entry-names-file c =
+pub returns-then-entry_names_file : goal.returns-then-entry_names_file
+returns-then-entry_names_file c =
     let s = c.args.self.now in
     let n = view_count s in
     let e = c.loop-e.e in
     let l : e < length (view s).entries = omega arith in
     let u : (entry_of (view s) e).unit ≡ c.args.unit = ap (λ (x : Entry). x.unit) (view_entry s e (omega arith)) ∙ c.if-self-e.true in
-    sym (unit_file_here c.args.unit (view s).entries e l (and_from _ _ (eq-eqb (entry_of (view s) e).unit c.args.unit u) (sym c.if-entry-names-file.ensures))) ∙ c.loop-e.invariant
+    sym (unit_file_here c.args.unit (view s).entries e l (and_from _ _ (eq-eqb (entry_of (view s) e).unit c.args.unit u) (sym c.if-entry_names_file.ensures))) ∙ c.loop-e.invariant
 
 pub loop-e-preserved : goal.loop-e-preserved
 loop-e-preserved c =
@@ -26,7 +26,7 @@ loop-e-preserved c =
     let l : e < length (view s).entries = omega arith in
     let v = view_entry s e (omega arith) in
     elim c.if-self-e.branch [
-      | then-self-e+else-entry-names-file w ↦ unit_file_later c.args.unit (view s).entries e l (and_right (eqb (entry_of (view s) e).unit c.args.unit) _ (sym w.entry-names-file.ensures ∙ w.if-entry-names-file.false)) ∙ c.loop-e.invariant
+      | then-self-e+else-entry-names-file w ↦ unit_file_later c.args.unit (view s).entries e l (and_right (eqb (entry_of (view s) e).unit c.args.unit) _ (sym w.entry_names_file.ensures ∙ w.if-entry_names_file.false)) ∙ c.loop-e.invariant
       | else-self-e w ↦ unit_file_later c.args.unit (view s).entries e l (and_left _ _ (ne_eqb (entry_of (view s) e).unit c.args.unit (λ q. w.if-self-e.false (sym (ap (λ (x : Entry). x.unit) v) ∙ q)))) ∙ c.loop-e.invariant
     ]
 

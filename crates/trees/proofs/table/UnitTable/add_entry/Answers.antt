@@ -11,8 +11,8 @@ use Rattle.trees.proofs.table.UnitTable.add_entry.Goals as goal
 
 pub returns : goal.returns
 returns c = record {
-  outcome = c.try-add-entry.ensures.outcome;
-  declined = c.try-add-entry.ensures.declined;
-  law = λ h S. add_law (view c.args.self.now.records) h S c.args.parent c.args.tag (view c.try-add-entry.new.self.records, c.try-add-entry.result) c.try-add-entry.ensures.outcome (lists_of c.try-add-entry.new.self.records (holds c.try-add-entry.new.self));
-  growth = grows (view c.args.self.now.records) (view c.try-add-entry.new.self.records) (entry_added c.args.parent c.args.tag c.try-add-entry.result) (add_grew (view c.args.self.now.records) c.args.parent c.args.tag (view c.try-add-entry.new.self.records, c.try-add-entry.result) c.try-add-entry.ensures.outcome);
+  outcome = c.try_add_entry.ensures.outcome;
+  declined = c.try_add_entry.ensures.declined;
+  law = λ h S. add_law (view c.args.self.now.records) h S c.args.parent c.args.tag (view c.try_add_entry.new.self.records, c.try_add_entry.result) c.try_add_entry.ensures.outcome (lists_of c.try_add_entry.new.self.records (holds c.try_add_entry.new.self));
+  growth = grows (view c.args.self.now.records) (view c.try_add_entry.new.self.records) (entry_added c.args.parent c.args.tag c.try_add_entry.result) (add_grew (view c.args.self.now.records) c.args.parent c.args.tag (view c.try_add_entry.new.self.records, c.try_add_entry.result) c.try_add_entry.ensures.outcome);
 }

@@ -4,7 +4,7 @@ use Rattle.trees.proofs.Walks.{begun_attributes}
 use Rattle.trees.proofs.table.UnitTable.attrs.Goals as goal
 
 pub invariant-of-result : goal.invariant-of-result
-invariant-of-result c = let b = begun_attributes c.args.self.now.records (holds c.args.self.now) c.args.id c.first-attribute-next.result c.first-attribute-next.ensures in (b.0, (b.1, tt))
+invariant-of-result c = let b = begun_attributes c.args.self.now.records (holds c.args.self.now) c.args.id c.first_attribute-next.result c.first_attribute-next.ensures in (b.0, (b.1, tt))
 
 pub returns : goal.returns
-returns c = (begun_attributes c.args.self.now.records (holds c.args.self.now) c.args.id c.first-attribute-next.result c.first-attribute-next.ensures).2
+returns c = (begun_attributes c.args.self.now.records (holds c.args.self.now) c.args.id c.first_attribute-next.result c.first_attribute-next.ensures).2

@@ -11,8 +11,8 @@ use Rattle.trees.proofs.table.UnitTable.delete.Goals as goal
 
 pub returns : goal.returns
 returns c = record {
-  outcome = c.try-delete.ensures.outcome;
-  declined = c.try-delete.ensures.declined;
-  law = λ h S. edit_law (view c.args.self.now.records) h S (knows (view c.args.self.now.records) c.args.id) c.args.id.unit [] c.args.id (amend (unname c.args.name)) (amended (view c.args.self.now.records) c.args.id.entry (unname c.args.name) (cond (named c.args.name (entry_of (view c.args.self.now.records) c.args.id.entry).attributes) ((view c.args.self.now.records).attributes_left + 1) (view c.args.self.now.records).attributes_left)) (λ k. k) refl refl (view c.try-delete.new.self.records, c.try-delete.result) c.try-delete.ensures.outcome (lists_of c.try-delete.new.self.records (holds c.try-delete.new.self));
-  growth = grows (view c.args.self.now.records) (view c.try-delete.new.self.records) (attribute_deleted c.args.id c.args.name c.try-delete.result) (edit_grew (view c.args.self.now.records) (attribute_deleted c.args.id c.args.name) (knows (view c.args.self.now.records) c.args.id) c.args.id.unit [] c.args.id (amend (unname c.args.name)) (amends (unname c.args.name)) (amended (view c.args.self.now.records) c.args.id.entry (unname c.args.name) (cond (named c.args.name (entry_of (view c.args.self.now.records) c.args.id.entry).attributes) ((view c.args.self.now.records).attributes_left + 1) (view c.args.self.now.records).attributes_left)) (λ k. k) refl (record { none = λ r. refl; done = λ n f. refl; refused = λ n f x. refl }) (λ x. refl) (view c.try-delete.new.self.records, c.try-delete.result) c.try-delete.ensures.outcome);
+  outcome = c.try_delete.ensures.outcome;
+  declined = c.try_delete.ensures.declined;
+  law = λ h S. edit_law (view c.args.self.now.records) h S (knows (view c.args.self.now.records) c.args.id) c.args.id.unit [] c.args.id (amend (unname c.args.name)) (amended (view c.args.self.now.records) c.args.id.entry (unname c.args.name) (cond (named c.args.name (entry_of (view c.args.self.now.records) c.args.id.entry).attributes) ((view c.args.self.now.records).attributes_left + 1) (view c.args.self.now.records).attributes_left)) (λ k. k) refl refl (view c.try_delete.new.self.records, c.try_delete.result) c.try_delete.ensures.outcome (lists_of c.try_delete.new.self.records (holds c.try_delete.new.self));
+  growth = grows (view c.args.self.now.records) (view c.try_delete.new.self.records) (attribute_deleted c.args.id c.args.name c.try_delete.result) (edit_grew (view c.args.self.now.records) (attribute_deleted c.args.id c.args.name) (knows (view c.args.self.now.records) c.args.id) c.args.id.unit [] c.args.id (amend (unname c.args.name)) (amends (unname c.args.name)) (amended (view c.args.self.now.records) c.args.id.entry (unname c.args.name) (cond (named c.args.name (entry_of (view c.args.self.now.records) c.args.id.entry).attributes) ((view c.args.self.now.records).attributes_left + 1) (view c.args.self.now.records).attributes_left)) (λ k. k) refl (record { none = λ r. refl; done = λ n f. refl; refused = λ n f x. refl }) (λ x. refl) (view c.try_delete.new.self.records, c.try_delete.result) c.try_delete.ensures.outcome);
 }

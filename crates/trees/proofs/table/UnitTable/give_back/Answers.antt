@@ -11,8 +11,8 @@ use Rattle.trees.proofs.table.UnitTable.give_back.Goals as goal
 
 pub returns : goal.returns
 returns c = record {
-  outcome = c.try-give-back.ensures.outcome;
-  declined = c.try-give-back.ensures.declined;
-  law = λ h S. back_law (view c.args.self.now.records) h S c.args.reservation (view c.try-give-back.new.self.records, c.try-give-back.result) c.try-give-back.ensures.outcome (lists_of c.try-give-back.new.self.records (holds c.try-give-back.new.self));
-  growth = grows (view c.args.self.now.records) (view c.try-give-back.new.self.records) (gave_back c.args.reservation c.try-give-back.result) (back_grew (view c.args.self.now.records) c.args.reservation (view c.try-give-back.new.self.records, c.try-give-back.result) c.try-give-back.ensures.outcome);
+  outcome = c.try_give_back.ensures.outcome;
+  declined = c.try_give_back.ensures.declined;
+  law = λ h S. back_law (view c.args.self.now.records) h S c.args.reservation (view c.try_give_back.new.self.records, c.try_give_back.result) c.try_give_back.ensures.outcome (lists_of c.try_give_back.new.self.records (holds c.try_give_back.new.self));
+  growth = grows (view c.args.self.now.records) (view c.try_give_back.new.self.records) (gave_back c.args.reservation c.try_give_back.result) (back_grew (view c.args.self.now.records) c.args.reservation (view c.try_give_back.new.self.records, c.try_give_back.result) c.try_give_back.ensures.outcome);
 }

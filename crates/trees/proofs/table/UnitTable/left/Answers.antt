@@ -10,5 +10,5 @@ overflow-add-result c =
     let s = t.records in
     let z = chain_short (lists s).next (length s.attributes.now) ((lists s).first nil) in
     let y = t.attributes_fit in
-    let r = c.count-free.ensures in
+    let r = c.count_free.ensures in
     omega arith

@@ -7,16 +7,16 @@ use Rattle.trees.specs.Growth.{Grows}
 use Rattle.trees.proofs.Edits.{holds, known_unit}
 use Rattle.trees.proofs.table.UnitTable.mark_written.Goals as goal
 
-pub returns-then-not-knows-unit : goal.returns-then-not-knows-unit
-returns-then-not-knows-unit c = record { outcome = sym (cond-false _ _ _ (sym c.knows-unit.ensures ∙ c.if-not-knows-unit.true)); declined = λ _. refl; law = λ h S. S; growth = λ h S. S }
+pub returns-then-not-knows_unit : goal.returns-then-not-knows_unit
+returns-then-not-knows_unit c = record { outcome = sym (cond-false _ _ _ (sym c.knows_unit.ensures ∙ c.if-not-knows_unit.true)); declined = λ _. refl; law = λ h S. S; growth = λ h S. S }
 
 pub mark-requires : goal.mark-requires
-mark-requires c = let t = c.args.self.now in record { sound = holds t; used = known_unit t.records (holds t) c.args.unit (sym c.knows-unit.ensures ∙ c.if-not-knows-unit.false) }
+mark-requires c = let t = c.args.self.now in record { sound = holds t; used = known_unit t.records (holds t) c.args.unit (sym c.knows_unit.ensures ∙ c.if-not-knows_unit.false) }
 
 pub returns : goal.returns
 returns c =
     let t = c.args.self.now in
-    let q = sym c.knows-unit.ensures ∙ c.if-not-knows-unit.false in
+    let q = sym c.knows_unit.ensures ∙ c.if-not-knows_unit.false in
     record {
       outcome = ap (λ (v : Table). (v, true)) c.mark.ensures.view ∙ sym (cond-true _ _ _ q);
       declined = λ e. absurd (true≢false e);

@@ -11,8 +11,8 @@ use Rattle.trees.proofs.table.UnitTable.reserve.Goals as goal
 
 pub returns : goal.returns
 returns c = record {
-  outcome = c.try-reserve.ensures.outcome;
-  declined = c.try-reserve.ensures.declined;
-  law = λ h S. reserve_law (view c.args.self.now.records) h S c.args.unit (view c.try-reserve.new.self.records, c.try-reserve.result) c.try-reserve.ensures.outcome (lists_of c.try-reserve.new.self.records (holds c.try-reserve.new.self));
-  growth = grows (view c.args.self.now.records) (view c.try-reserve.new.self.records) (reserved c.args.unit c.try-reserve.result) (reserve_grew (view c.args.self.now.records) c.args.unit (view c.try-reserve.new.self.records, c.try-reserve.result) c.try-reserve.ensures.outcome);
+  outcome = c.try_reserve.ensures.outcome;
+  declined = c.try_reserve.ensures.declined;
+  law = λ h S. reserve_law (view c.args.self.now.records) h S c.args.unit (view c.try_reserve.new.self.records, c.try_reserve.result) c.try_reserve.ensures.outcome (lists_of c.try_reserve.new.self.records (holds c.try_reserve.new.self));
+  growth = grows (view c.args.self.now.records) (view c.try_reserve.new.self.records) (reserved c.args.unit c.try_reserve.result) (reserve_grew (view c.args.self.now.records) c.args.unit (view c.try_reserve.new.self.records, c.try_reserve.result) c.try_reserve.ensures.outcome);
 }

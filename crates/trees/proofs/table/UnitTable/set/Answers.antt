@@ -12,8 +12,8 @@ use Rattle.trees.proofs.table.UnitTable.set.Goals as goal
 
 pub returns : goal.returns
 returns c = record {
-  outcome = c.try-set.ensures.outcome;
-  declined = c.try-set.ensures.declined;
-  law = λ h S. edit_law (view c.args.self.now.records) h S (knows (view c.args.self.now.records) c.args.id) c.args.id.unit (set_checks (view c.args.self.now.records) c.args.id.entry c.args.name c.args.value) c.args.id (amend (put (record { name = c.args.name; value = c.args.value }))) (amended (view c.args.self.now.records) c.args.id.entry (put (record { name = c.args.name; value = c.args.value })) (cond (named c.args.name (entry_of (view c.args.self.now.records) c.args.id.entry).attributes) (view c.args.self.now.records).attributes_left ((view c.args.self.now.records).attributes_left - 1))) (λ k. k) refl refl (view c.try-set.new.self.records, c.try-set.result) c.try-set.ensures.outcome (lists_of c.try-set.new.self.records (holds c.try-set.new.self));
-  growth = grows (view c.args.self.now.records) (view c.try-set.new.self.records) (attribute_set c.args.id c.args.name c.args.value c.try-set.result) (edit_grew (view c.args.self.now.records) (attribute_set c.args.id c.args.name c.args.value) (knows (view c.args.self.now.records) c.args.id) c.args.id.unit (set_checks (view c.args.self.now.records) c.args.id.entry c.args.name c.args.value) c.args.id (amend (put (record { name = c.args.name; value = c.args.value }))) (amends (put (record { name = c.args.name; value = c.args.value }))) (amended (view c.args.self.now.records) c.args.id.entry (put (record { name = c.args.name; value = c.args.value })) (cond (named c.args.name (entry_of (view c.args.self.now.records) c.args.id.entry).attributes) (view c.args.self.now.records).attributes_left ((view c.args.self.now.records).attributes_left - 1))) (λ k. k) refl (record { none = λ r. refl; done = λ n f. refl; refused = λ n f x. refl }) (λ x. refl) (view c.try-set.new.self.records, c.try-set.result) c.try-set.ensures.outcome);
+  outcome = c.try_set.ensures.outcome;
+  declined = c.try_set.ensures.declined;
+  law = λ h S. edit_law (view c.args.self.now.records) h S (knows (view c.args.self.now.records) c.args.id) c.args.id.unit (set_checks (view c.args.self.now.records) c.args.id.entry c.args.name c.args.value) c.args.id (amend (put (record { name = c.args.name; value = c.args.value }))) (amended (view c.args.self.now.records) c.args.id.entry (put (record { name = c.args.name; value = c.args.value })) (cond (named c.args.name (entry_of (view c.args.self.now.records) c.args.id.entry).attributes) (view c.args.self.now.records).attributes_left ((view c.args.self.now.records).attributes_left - 1))) (λ k. k) refl refl (view c.try_set.new.self.records, c.try_set.result) c.try_set.ensures.outcome (lists_of c.try_set.new.self.records (holds c.try_set.new.self));
+  growth = grows (view c.args.self.now.records) (view c.try_set.new.self.records) (attribute_set c.args.id c.args.name c.args.value c.try_set.result) (edit_grew (view c.args.self.now.records) (attribute_set c.args.id c.args.name c.args.value) (knows (view c.args.self.now.records) c.args.id) c.args.id.unit (set_checks (view c.args.self.now.records) c.args.id.entry c.args.name c.args.value) c.args.id (amend (put (record { name = c.args.name; value = c.args.value }))) (amends (put (record { name = c.args.name; value = c.args.value }))) (amended (view c.args.self.now.records) c.args.id.entry (put (record { name = c.args.name; value = c.args.value })) (cond (named c.args.name (entry_of (view c.args.self.now.records) c.args.id.entry).attributes) (view c.args.self.now.records).attributes_left ((view c.args.self.now.records).attributes_left - 1))) (λ k. k) refl (record { none = λ r. refl; done = λ n f. refl; refused = λ n f x. refl }) (λ x. refl) (view c.try_set.new.self.records, c.try_set.result) c.try_set.ensures.outcome);
 }

@@ -14,21 +14,21 @@ check-requires c = λ e. (known c.args.self.now.records (holds c.args.self.now) 
 pub overflow-cast-parent : goal.overflow-cast-parent
 overflow-cast-parent c =
     let t = c.args.self.now in
-    let p = passed (view t.records) c.knows.result c.args.parent.unit c.in-ok-check.ensures in
+    let p = passed (view t.records) c.knows.result c.args.parent.unit c.in_ok-check.ensures in
     let k = known t.records (holds t) c.args.parent (sym c.knows.ensures ∙ p.1) in
     let z = t.units_fit in omega arith
 
 pub grant-requires : goal.grant-requires
 grant-requires c =
     let t = c.args.self.now in
-    let p = passed (view t.records) c.knows.result c.args.parent.unit c.in-ok-check.ensures in
+    let p = passed (view t.records) c.knows.result c.args.parent.unit c.in_ok-check.ensures in
     let k = known t.records (holds t) c.args.parent (sym c.knows.ensures ∙ p.1) in
     record { sound = holds t; unit = k.housed; room = c.if-entry-self.false }
 
 pub place-requires : goal.place-requires
 place-requires c =
     let t = c.args.self.now in
-    let p = passed (view t.records) c.knows.result c.args.parent.unit c.in-ok-check.ensures in
+    let p = passed (view t.records) c.knows.result c.args.parent.unit c.in_ok-check.ensures in
     let k = known t.records (holds t) c.args.parent (sym c.knows.ensures ∙ p.1) in
     let g = granted t.records c.grant.new.self c.args.parent.unit c.grant.ensures.view c.grant.ensures.count in
     let e = c.grant.ensures.count in
@@ -41,7 +41,7 @@ returns c =
     let r = t.records in
     let u = c.args.parent.unit in
     let e = c.args.parent.entry in
-    let p = passed_as (view r) c.knows.result (knows (view r) c.args.parent) u c.knows.ensures (passed (view r) c.knows.result u c.in-ok-check.ensures) in
+    let p = passed_as (view r) c.knows.result (knows (view r) c.args.parent) u c.knows.ensures (passed (view r) c.knows.result u c.in_ok-check.ensures) in
     let at : Table → ℕ → Table × Result UnitEntryId EditFault = λ v n. (place v n e c.args.tag, Ok (record { table = r.number; unit = u; entry = n })) in
     record {
       outcome = ap (λ (v : Table). (v, Ok (record { table = r.number; unit = u; entry = r.entry_count }))) c.place.ensures.view ∙ (ap (λ (v : Table). at v r.entry_count) c.grant.ensures.view ∙ (ap (at (grant (view r) u)) (sym (view_count r))

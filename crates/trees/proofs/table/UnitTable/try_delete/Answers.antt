@@ -15,7 +15,7 @@ check-requires c = λ e. (known c.args.self.now.records (holds c.args.self.now) 
 pub find-place-requires : goal.find-place-requires
 find-place-requires c =
     let t = c.args.self.now in
-    let p = passed (view t.records) c.knows.result c.args.id.unit c.in-ok-check.ensures in
+    let p = passed (view t.records) c.knows.result c.args.id.unit c.in_ok-check.ensures in
     record { sound = holds t; used = (known t.records (holds t) c.args.id (sym c.knows.ensures ∙ p.1)).used }
 
 pub returns-then-place : goal.returns-then-place
@@ -24,7 +24,7 @@ returns-then-place c =
     let t = c.args.self.now in
     let r = t.records in
     let e = c.args.id.entry in
-    let p = passed (view r) c.knows.result c.args.id.unit c.in-ok-check.ensures in
+    let p = passed (view r) c.knows.result c.args.id.unit c.in_ok-check.ensures in
     let h = (known r (holds t) c.args.id (sym c.knows.ensures ∙ p.1)).used in
     let n = not_named r e c.args.name c.find-place.result.before h (c.find-place.ensures.0 c.if-place.true) in
     let D : ℕ → Table × Result Unit EditFault = λ s. (amended (view r) e (unname c.args.name) s, Ok tt) in
@@ -40,7 +40,7 @@ pub remove-requires : goal.remove-requires
 unfolding nil
 remove-requires c =
     let t = c.args.self.now in
-    let p = passed (view t.records) c.knows.result c.args.id.unit c.in-ok-check.ensures in
+    let p = passed (view t.records) c.knows.result c.args.id.unit c.in_ok-check.ensures in
     let w = c.find-place.ensures.1 c.if-place.false in
     record {
       sound = holds t;
@@ -55,7 +55,7 @@ returns c =
     let t = c.args.self.now in
     let r = t.records in
     let e = c.args.id.entry in
-    let p = passed (view r) c.knows.result c.args.id.unit c.in-ok-check.ensures in
+    let p = passed (view r) c.knows.result c.args.id.unit c.in_ok-check.ensures in
     let h = (known r (holds t) c.args.id (sym c.knows.ensures ∙ p.1)).used in
     let w = c.find-place.ensures.1 c.if-place.false in
     let n = is_named r e c.args.name c.find-place.result.before c.find-place.result.at h w in

@@ -21,24 +21,24 @@ bounds-self-e c =
     let k = (known t.records (holds t) (entry_id c.args.reservation) (is_known t c.args.reservation c.id-id.result c.knows.result c.id-id.ensures c.knows.ensures c.if-not-knows.false)).used in
     let z = t.entries_fit in omega arith
 
-pub returns-then-not-is-waiting : goal.returns-then-not-is-waiting
-returns-then-not-is-waiting c =
+pub returns-then-not-is_waiting : goal.returns-then-not-is_waiting
+returns-then-not-is_waiting c =
     let t = c.args.self.now in
     let kn = is_known t c.args.reservation c.id-id.result c.knows.result c.id-id.ensures c.knows.ensures c.if-not-knows.false in
     let k = known t.records (holds t) (entry_id c.args.reservation) kn in
-    let w : is_waiting (entry_of (view t.records) c.args.reservation.entry).state ≡ false = ap is_waiting (view_state t.records c.args.reservation.entry k.used) ∙ (sym c.is-waiting.ensures ∙ c.if-not-is-waiting.true) in
+    let w : is_waiting (entry_of (view t.records) c.args.reservation.entry).state ≡ false = ap is_waiting (view_state t.records c.args.reservation.entry k.used) ∙ (sym c.is_waiting.ensures ∙ c.if-not-is_waiting.true) in
     record { outcome = sym (cond-false _ _ _ (and_right (knows (view t.records) (entry_id c.args.reservation)) _ w)); declined = λ _. refl }
 
 pub retire-requires : goal.retire-requires
 retire-requires c =
     let t = c.args.self.now in
     let kn = is_known t c.args.reservation c.id-id.result c.knows.result c.id-id.ensures c.knows.ensures c.if-not-knows.false in
-    record { sound = holds t; used = (known t.records (holds t) (entry_id c.args.reservation) kn).used; waits = waiting_is _ (sym c.is-waiting.ensures ∙ c.if-not-is-waiting.false) }
+    record { sound = holds t; used = (known t.records (holds t) (entry_id c.args.reservation) kn).used; waits = waiting_is _ (sym c.is_waiting.ensures ∙ c.if-not-is_waiting.false) }
 
 pub returns : goal.returns
 returns c =
     let t = c.args.self.now in
     let kn = is_known t c.args.reservation c.id-id.result c.knows.result c.id-id.ensures c.knows.ensures c.if-not-knows.false in
     let k = known t.records (holds t) (entry_id c.args.reservation) kn in
-    let w : is_waiting (entry_of (view t.records) c.args.reservation.entry).state ≡ true = ap is_waiting (view_state t.records c.args.reservation.entry k.used) ∙ (sym c.is-waiting.ensures ∙ c.if-not-is-waiting.false) in
+    let w : is_waiting (entry_of (view t.records) c.args.reservation.entry).state ≡ true = ap is_waiting (view_state t.records c.args.reservation.entry k.used) ∙ (sym c.is_waiting.ensures ∙ c.if-not-is_waiting.false) in
     record { outcome = ap (λ (v : Table). (v, true)) c.retire.ensures.view ∙ sym (cond-true _ _ _ (and_from _ _ kn w)); declined = λ e. absurd (true≢false e) }

@@ -14,7 +14,7 @@ returns c =
     let t = c.args.self.now in
     let r = t.records in
     let u = c.args.unit.unit in
-    let p = passed_as (view r) c.knows-unit.result (knows_unit (view r) c.args.unit) u c.knows-unit.ensures (passed (view r) c.knows-unit.result u c.in-ok-check.ensures) in
+    let p = passed_as (view r) c.knows_unit.result (knows_unit (view r) c.args.unit) u c.knows_unit.ensures (passed (view r) c.knows_unit.result u c.in_ok-check.ensures) in
     let at : Table → ℕ → Table × Result (UnitEntryId × Reservation) EditFault = λ v n. (v, Ok (record { table = r.number; unit = u; entry = n }, record { table = r.number; unit = u; entry = n })) in
     record {
       outcome = ap (λ (v : Table). at v r.entry_count) c.grant.ensures.view ∙ (ap (at (grant (view r) u)) (sym (view_count r))

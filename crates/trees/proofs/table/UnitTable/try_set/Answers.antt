@@ -17,14 +17,14 @@ check-requires c = λ e. (known c.args.self.now.records (holds c.args.self.now) 
 pub find-place-requires : goal.find-place-requires
 find-place-requires c =
     let t = c.args.self.now in
-    let p = passed (view t.records) c.knows.result c.args.id.unit c.in-ok-check.ensures in
+    let p = passed (view t.records) c.knows.result c.args.id.unit c.in_ok-check.ensures in
     record { sound = holds t; used = (known t.records (holds t) c.args.id (sym c.knows.ensures ∙ p.1)).used }
 
 pub replace-requires : goal.replace-requires
 unfolding nil
 replace-requires c =
     let t = c.args.self.now in
-    let p = passed (view t.records) c.knows.result c.args.id.unit c.in-ok-check.ensures in
+    let p = passed (view t.records) c.knows.result c.args.id.unit c.in_ok-check.ensures in
     let w = c.find-place.ensures.1 c.if-place.true in
     record {
       sound = holds t;
@@ -40,7 +40,7 @@ returns-then-place c =
     let r = t.records in
     let e = c.args.id.entry in
     let v : Attribute = record { name = c.args.name; value = c.args.value } in
-    let p = passed (view r) c.knows.result c.args.id.unit c.in-ok-check.ensures in
+    let p = passed (view r) c.knows.result c.args.id.unit c.in_ok-check.ensures in
     let h = (known r (holds t) c.args.id (sym c.knows.ensures ∙ p.1)).used in
     let n = is_named r e c.args.name c.find-place.result.before c.find-place.result.at h (c.find-place.ensures.1 c.if-place.true) in
     let D : ℕ → Table × Result Unit EditFault = λ s. (amended (view r) e (put v) s, Ok tt) in
@@ -48,25 +48,25 @@ returns-then-place c =
       outcome = ap (λ (x : Table). (x, Ok tt)) c.replace.ensures.view
           ∙ (ap D (sym (cond-true (named c.args.name (entry_of (view r) e).attributes) (view r).attributes_left ((view r).attributes_left - 1) n))
           ∙ done (view r) (knows (view r) c.args.id) c.args.id.unit (set_checks (view r) e c.args.name c.args.value) as_is (D (cond (named c.args.name (entry_of (view r) e).attributes) (view r).attributes_left ((view r).attributes_left - 1)))
-          (passed_as (view r) c.knows.result _ c.args.id.unit c.knows.ensures p) (set_named (view r) e c.args.name c.args.value (ne_eqb c.args.name 1 c.if-name-eq-DW-AT-SIBLING.false) (sym c.holds-span.ensures ∙ c.if-not-holds-span.false) n));
+          (passed_as (view r) c.knows.result _ c.args.id.unit c.knows.ensures p) (set_named (view r) e c.args.name c.args.value (ne_eqb c.args.name 1 c.if-name-eq-DW_AT_SIBLING.false) (sym c.holds_span.ensures ∙ c.if-not-holds_span.false) n));
       declined = λ z. absurd (true≢false z);
     }
 
-pub returns-then-not-has-spare : goal.returns-then-not-has-spare
+pub returns-then-not-has_spare : goal.returns-then-not-has_spare
 unfolding nil
-returns-then-not-has-spare c =
+returns-then-not-has_spare c =
     let t = c.args.self.now in
     let r = t.records in
     let e = c.args.id.entry in
     let v : Attribute = record { name = c.args.name; value = c.args.value } in
-    let p = passed (view r) c.knows.result c.args.id.unit c.in-ok-check.ensures in
+    let p = passed (view r) c.knows.result c.args.id.unit c.in_ok-check.ensures in
     let h = (known r (holds t) c.args.id (sym c.knows.ensures ∙ p.1)).used in
     let n = not_named r e c.args.name c.find-place.result.before h (c.find-place.ensures.0 c.if-place.false) in
     record {
       outcome = fault (view r) (knows (view r) c.args.id) c.args.id.unit (set_checks (view r) e c.args.name c.args.value) as_is
           (amended (view r) e (put v) (cond (named c.args.name (entry_of (view r) e).attributes) (view r).attributes_left ((view r).attributes_left - 1)), Ok tt) TableFull
           (passed_as (view r) c.knows.result _ c.args.id.unit c.knows.ensures p)
-          (set_full (view r) e c.args.name c.args.value (ne_eqb c.args.name 1 c.if-name-eq-DW-AT-SIBLING.false) (sym c.holds-span.ensures ∙ c.if-not-holds-span.false) n (not-false _ (sym c.has-spare.ensures ∙ c.if-not-has-spare.true)));
+          (set_full (view r) e c.args.name c.args.value (ne_eqb c.args.name 1 c.if-name-eq-DW_AT_SIBLING.false) (sym c.holds_span.ensures ∙ c.if-not-holds_span.false) n (not-false _ (sym c.has_spare.ensures ∙ c.if-not-has_spare.true)));
       declined = λ _. refl;
     }
 
@@ -74,8 +74,8 @@ pub append-requires : goal.append-requires
 unfolding nil
 append-requires c =
     let t = c.args.self.now in
-    let p = passed (view t.records) c.knows.result c.args.id.unit c.in-ok-check.ensures in
-    let ne = eqb-false _ 0 (not-true _ (sym c.has-spare.ensures ∙ c.if-not-has-spare.false)) in
+    let p = passed (view t.records) c.knows.result c.args.id.unit c.in_ok-check.ensures in
+    let ne = eqb-false _ 0 (not-true _ (sym c.has_spare.ensures ∙ c.if-not-has_spare.false)) in
     record { sound = holds t; used = (known t.records (holds t) c.args.id (sym c.knows.ensures ∙ p.1)).used; room = omega arith; last = (c.find-place.ensures.0 c.if-place.false).last }
 
 pub returns : goal.returns
@@ -85,7 +85,7 @@ returns c =
     let r = t.records in
     let e = c.args.id.entry in
     let v : Attribute = record { name = c.args.name; value = c.args.value } in
-    let p = passed (view r) c.knows.result c.args.id.unit c.in-ok-check.ensures in
+    let p = passed (view r) c.knows.result c.args.id.unit c.in_ok-check.ensures in
     let h = (known r (holds t) c.args.id (sym c.knows.ensures ∙ p.1)).used in
     let n = not_named r e c.args.name c.find-place.result.before h (c.find-place.ensures.0 c.if-place.false) in
     let D : ℕ → Table × Result Unit EditFault = λ s. (amended (view r) e (put v) s, Ok tt) in
@@ -93,32 +93,32 @@ returns c =
       outcome = ap (λ (x : Table). (x, Ok tt)) (c.append.ensures.view ∙ sym (amend_same (view r) e (put v) (λ xs. xs ++ v ∷ []) ((view r).attributes_left - 1) (put_new v (entry_of (view r) e).attributes n)))
           ∙ (ap D (sym (cond-false (named c.args.name (entry_of (view r) e).attributes) (view r).attributes_left ((view r).attributes_left - 1) n))
           ∙ done (view r) (knows (view r) c.args.id) c.args.id.unit (set_checks (view r) e c.args.name c.args.value) as_is (D (cond (named c.args.name (entry_of (view r) e).attributes) (view r).attributes_left ((view r).attributes_left - 1)))
-          (passed_as (view r) c.knows.result _ c.args.id.unit c.knows.ensures p) (set_room (view r) e c.args.name c.args.value (ne_eqb c.args.name 1 c.if-name-eq-DW-AT-SIBLING.false) (sym c.holds-span.ensures ∙ c.if-not-holds-span.false) n (not-true _ (sym c.has-spare.ensures ∙ c.if-not-has-spare.false))));
+          (passed_as (view r) c.knows.result _ c.args.id.unit c.knows.ensures p) (set_room (view r) e c.args.name c.args.value (ne_eqb c.args.name 1 c.if-name-eq-DW_AT_SIBLING.false) (sym c.holds_span.ensures ∙ c.if-not-holds_span.false) n (not-true _ (sym c.has_spare.ensures ∙ c.if-not-has_spare.false))));
       declined = λ z. absurd (true≢false z);
     }
 
-pub returns-then-name-eq-DW-AT-SIBLING : goal.returns-then-name-eq-DW-AT-SIBLING
-returns-then-name-eq-DW-AT-SIBLING c =
+pub returns-then-name-eq-DW_AT_SIBLING : goal.returns-then-name-eq-DW_AT_SIBLING
+returns-then-name-eq-DW_AT_SIBLING c =
     let r = c.args.self.now.records in
     let e = c.args.id.entry in
     let v : Attribute = record { name = c.args.name; value = c.args.value } in
-    let p = passed (view r) c.knows.result c.args.id.unit c.in-ok-check.ensures in
+    let p = passed (view r) c.knows.result c.args.id.unit c.in_ok-check.ensures in
     record {
       outcome = fault (view r) (knows (view r) c.args.id) c.args.id.unit (set_checks (view r) e c.args.name c.args.value) as_is
           (amended (view r) e (put v) (cond (named c.args.name (entry_of (view r) e).attributes) (view r).attributes_left ((view r).attributes_left - 1)), Ok tt) SiblingName
-          (passed_as (view r) c.knows.result _ c.args.id.unit c.knows.ensures p) (set_sibling (view r) e c.args.name c.args.value (eq-eqb c.args.name 1 c.if-name-eq-DW-AT-SIBLING.true));
+          (passed_as (view r) c.knows.result _ c.args.id.unit c.knows.ensures p) (set_sibling (view r) e c.args.name c.args.value (eq-eqb c.args.name 1 c.if-name-eq-DW_AT_SIBLING.true));
       declined = λ _. refl;
     }
 
-pub returns-then-not-holds-span : goal.returns-then-not-holds-span
-returns-then-not-holds-span c =
+pub returns-then-not-holds_span : goal.returns-then-not-holds_span
+returns-then-not-holds_span c =
     let r = c.args.self.now.records in
     let e = c.args.id.entry in
     let v : Attribute = record { name = c.args.name; value = c.args.value } in
-    let p = passed (view r) c.knows.result c.args.id.unit c.in-ok-check.ensures in
+    let p = passed (view r) c.knows.result c.args.id.unit c.in_ok-check.ensures in
     record {
       outcome = fault (view r) (knows (view r) c.args.id) c.args.id.unit (set_checks (view r) e c.args.name c.args.value) as_is
           (amended (view r) e (put v) (cond (named c.args.name (entry_of (view r) e).attributes) (view r).attributes_left ((view r).attributes_left - 1)), Ok tt) SpanOutOfBounds
-          (passed_as (view r) c.knows.result _ c.args.id.unit c.knows.ensures p) (set_span (view r) e c.args.name c.args.value (ne_eqb c.args.name 1 c.if-name-eq-DW-AT-SIBLING.false) (sym c.holds-span.ensures ∙ c.if-not-holds-span.true));
+          (passed_as (view r) c.knows.result _ c.args.id.unit c.knows.ensures p) (set_span (view r) e c.args.name c.args.value (ne_eqb c.args.name 1 c.if-name-eq-DW_AT_SIBLING.false) (sym c.holds_span.ensures ∙ c.if-not-holds_span.true));
       declined = λ _. refl;
     }

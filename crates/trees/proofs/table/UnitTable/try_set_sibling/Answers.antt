@@ -9,5 +9,5 @@ check-requires c = λ e. (known c.args.self.now.records (holds c.args.self.now) 
 pub flag-requires : goal.flag-requires
 flag-requires c =
     let t = c.args.self.now in
-    let p = passed (view t.records) c.knows.result c.args.id.unit c.in-ok-check.ensures in
+    let p = passed (view t.records) c.knows.result c.args.id.unit c.in_ok-check.ensures in
     record { sound = holds t; used = (known t.records (holds t) c.args.id (sym c.knows.ensures ∙ p.1)).used }

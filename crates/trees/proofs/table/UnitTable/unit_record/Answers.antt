@@ -7,5 +7,5 @@ use Rattle.trees.proofs.table.UnitTable.unit_record.Goals as goal
 pub returns : goal.returns
 returns c =
     let t = c.args.self.now in
-    let k = sym c.knows-unit.ensures ∙ c.if-not-knows-unit.false in
+    let k = sym c.knows_unit.ensures ∙ c.if-not-knows_unit.false in
     ap (λ (u : UnitRecord). Some u) (sym (view_unit t.records c.args.id.unit (known_unit t.records (holds t) c.args.id k))) ∙ sym (cond-true _ _ _ k)

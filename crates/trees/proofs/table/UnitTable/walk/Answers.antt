@@ -8,12 +8,12 @@ use Rattle.trees.proofs.table.UnitTable.walk.Goals as goal
 pub invariant-of-result : goal.invariant-of-result
 invariant-of-result c =
     let t = c.args.self.now in
-    let b = subst (Begins t.records (holds t) c.args.unit) (sym c.root-record-root.ensures) (begins t.records (holds t) c.args.unit) in
+    let b = subst (Begins t.records (holds t) c.args.unit) (sym c.root_record-root.ensures) (begins t.records (holds t) c.args.unit) in
     (t.entries_fit.0, (b.1, tt))
 
 pub returns : goal.returns
 returns c =
     let t = c.args.self.now in
-    let b = subst (Begins t.records (holds t) c.args.unit) (sym c.root-record-root.ensures) (begins t.records (holds t) c.args.unit) in
+    let b = subst (Begins t.records (holds t) c.args.unit) (sym c.root_record-root.ensures) (begins t.records (holds t) c.args.unit) in
     let m = matches t.records (holds t) c.args.unit in
     record { events = b.0; tree = m.0; reached = m.1; once = b.2 }
