@@ -13,9 +13,9 @@ pub bounds-self-next : goal.bounds-self-next
 unfolding nil
 bounds-self-next c = let s = c.args.self.now in (walk_step (nx s.entries.now) (length s.entries.now) s.next s.ends s.lie c.if-next.false).1
 
-pub invariant-of-self : goal.invariant-of-self
+pub invariant_of-self : goal.invariant_of-self
 unfolding nil
-invariant-of-self c = let s = c.args.self.now in let w = walk_step (nx s.entries.now) (length s.entries.now) s.next s.ends s.lie c.if-next.false in (w.2, (w.3, tt))
+invariant_of-self c = let s = c.args.self.now in let w = walk_step (nx s.entries.now) (length s.entries.now) s.next s.ends s.lie c.if-next.false in record { ends = w.2; lie = w.3 }
 
 pub returns : goal.returns
 unfolding nil

@@ -36,8 +36,8 @@ pub loop-cur-preserved : goal.loop-cur-preserved
 loop-cur-preserved c = turn_next c.args.self.now c.requires.sound c.args.p c.requires.parent c.loop-cur.self c.loop-cur.prev c.loop-cur.cur c.loop-cur.invariant c.if-cur-end.false
     c.settle-prev.new.self c.settle-prev.result c.settle-prev.ensures.sound c.settle-prev.ensures.view c.settle-prev.ensures.kept
 
-pub overflow-cast-next : goal.overflow-cast-next
-overflow-cast-next c =
+pub overflow_cast-next : goal.overflow_cast-next
+overflow_cast-next c =
     let k = turn_in c.args.self.now c.requires.sound c.args.p c.requires.parent c.loop-cur.self c.loop-cur.prev c.loop-cur.cur c.loop-cur.invariant in
     let z = c.loop-cur.invariant.sound.entries_fit in omega arith
 

@@ -15,8 +15,8 @@ loop-at-init c =
     let f = from s c.requires nil s.free (first_free s.units.now s.unit_count s.entries.now s.entry_count s.attributes.now s.attribute_count s.free (length s.pool.now) c.requires s.free) in
     (f.0, f.1, (let z = ap length f.2 in omega arith))
 
-pub overflow-add-count : goal.overflow-add-count
-overflow-add-count c =
+pub overflow_add-count : goal.overflow_add-count
+overflow_add-count c =
     let s = c.args.self.now in
     let i = c.loop-at.invariant in
     let z = chain_short (lists s).next (length s.attributes.now) ((lists s).first nil) in

@@ -26,7 +26,7 @@ loop-e-preserved c =
     let l : e < length (view s).entries = omega arith in
     let v = view_entry s e (omega arith) in
     elim c.if-self-e.branch [
-      | then-self-e+else-entry-names-file w ↦ unit_file_later c.args.unit (view s).entries e l (and_right (eqb (entry_of (view s) e).unit c.args.unit) _ (sym w.entry_names_file.ensures ∙ w.if-entry_names_file.false)) ∙ c.loop-e.invariant
+      | then-self-e+else-entry_names_file w ↦ unit_file_later c.args.unit (view s).entries e l (and_right (eqb (entry_of (view s) e).unit c.args.unit) _ (sym w.entry_names_file.ensures ∙ w.if-entry_names_file.false)) ∙ c.loop-e.invariant
       | else-self-e w ↦ unit_file_later c.args.unit (view s).entries e l (and_left _ _ (ne_eqb (entry_of (view s) e).unit c.args.unit (λ q. w.if-self-e.false (sym (ap (λ (x : Entry). x.unit) v) ∙ q)))) ∙ c.loop-e.invariant
     ]
 

@@ -4,8 +4,8 @@ use Rattle.trees.specs.Lists.{nil}
 use Rattle.trees.proofs.Families.{chain_short}
 use Rattle.trees.proofs.table.UnitTable.left.Goals as goal
 
-pub overflow-add-result : goal.overflow-add-result
-overflow-add-result c =
+pub overflow_add-result : goal.overflow_add-result
+overflow_add-result c =
     let t = c.args.self.now in
     let s = t.records in
     let z = chain_short (lists s).next (length s.attributes.now) ((lists s).first nil) in

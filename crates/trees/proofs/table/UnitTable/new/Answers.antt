@@ -6,13 +6,13 @@ use Rattle.trees.proofs.Laws.{new_law}
 use Rattle.trees.proofs.Empty.{empty_sound, none_held, no_entries, take_min, length_min, length_below}
 use Rattle.trees.proofs.table.UnitTable.new.Goals as goal
 
-pub invariant-of-result : goal.invariant-of-result
+pub invariant_of-result : goal.invariant_of-result
 unfolding nil
-invariant-of-result c =
+invariant_of-result c =
     let s = empty_sound (take c.min-n.result c.args.entries.now) (take c.min-k.result c.args.attributes.now) (take c.min-m.result c.args.units.now) (length (take c.min-l.result c.args.pool.now))
     (length_below c.args.units.now 64 c.min-m.result c.min-m.ensures) (length_below c.args.entries.now 65535 c.min-n.result c.min-n.ensures)
     (length_below c.args.attributes.now 65535 c.min-k.result c.min-k.ensures) (length_below c.args.pool.now 1048576 c.min-l.result c.min-l.ensures) in
-    (s.units_fit, (s.entries_fit, (s.attributes_fit, (s.pool_fits, (s.kin_ends, (s.kin_owned, (s.lasts, (s.parented, (s.listed, (s.akin, (s.housed, (s.rooted, (s.held_ends, (s.held_owned, tt))))))))))))))
+    record { units_fit = s.units_fit; entries_fit = s.entries_fit; attributes_fit = s.attributes_fit; pool_fits = s.pool_fits; kin_ends = s.kin_ends; kin_owned = s.kin_owned; lasts = s.lasts; parented = s.parented; listed = s.listed; akin = s.akin; housed = s.housed; rooted = s.rooted; held_ends = s.held_ends; held_owned = s.held_owned }
 
 pub returns : goal.returns
 unfolding nil

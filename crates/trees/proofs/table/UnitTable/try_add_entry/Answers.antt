@@ -11,8 +11,8 @@ use Rattle.trees.proofs.table.UnitTable.try_add_entry.Goals as goal
 pub check-requires : goal.check-requires
 check-requires c = λ e. (known c.args.self.now.records (holds c.args.self.now) c.args.parent (sym c.knows.ensures ∙ e)).housed
 
-pub overflow-cast-parent : goal.overflow-cast-parent
-overflow-cast-parent c =
+pub overflow_cast-parent : goal.overflow_cast-parent
+overflow_cast-parent c =
     let t = c.args.self.now in
     let p = passed (view t.records) c.knows.result c.args.parent.unit c.in_ok-check.ensures in
     let k = known t.records (holds t) c.args.parent (sym c.knows.ensures ∙ p.1) in

@@ -11,8 +11,8 @@ use Rattle.trees.proofs.table.UnitTable.try_delete_child.Goals as goal
 pub check-requires : goal.check-requires
 check-requires c = λ e. let t = c.args.self.now in (known_both t.records (holds t) c.args.parent c.args.child (sym c.knows_both.ensures ∙ e)).0.housed
 
-pub overflow-cast-child : goal.overflow-cast-child
-overflow-cast-child c =
+pub overflow_cast-child : goal.overflow_cast-child
+overflow_cast-child c =
     let t = c.args.self.now in
     let p = passed (view t.records) c.knows_both.result c.args.parent.unit c.in_ok-check.ensures in
     let k = (known_both t.records (holds t) c.args.parent c.args.child (sym c.knows_both.ensures ∙ p.1)).1.used in

@@ -5,11 +5,11 @@ use Rattle.trees.proofs.Paths.{Begins, begins}
 use Rattle.trees.proofs.Reaches.{matches}
 use Rattle.trees.proofs.table.UnitTable.walk.Goals as goal
 
-pub invariant-of-result : goal.invariant-of-result
-invariant-of-result c =
+pub invariant_of-result : goal.invariant_of-result
+invariant_of-result c =
     let t = c.args.self.now in
     let b = subst (Begins t.records (holds t) c.args.unit) (sym c.root_record-root.ensures) (begins t.records (holds t) c.args.unit) in
-    (t.entries_fit.0, (b.1, tt))
+    record { inside = t.entries_fit.0; ending = b.1 }
 
 pub returns : goal.returns
 returns c =

@@ -10,9 +10,9 @@ use Rattle.trees.proofs.walk.Walk.next.Goals as goal
 pub returns-then-at-self : goal.returns-then-at-self
 returns-then-at-self c = let s = c.args.self.now in record { given = past s.entries.now s.count s.root s.at s.up c.if-at-self.true; stays = refl; kept = refl }
 
-pub invariant-of-self : goal.invariant-of-self
+pub invariant_of-self : goal.invariant_of-self
 unfolding nil
-invariant-of-self c = let s = c.args.self.now in (s.inside, ((into s.entries.now s.count s.root s.at s.up s.ending c.pick-self.result c.if-at-self.false c.if-not-self.true c.pick-self.ensures).1, tt))
+invariant_of-self c = let s = c.args.self.now in record { inside = s.inside; ending = (into s.entries.now s.count s.root s.at s.up s.ending c.pick-self.result c.if-at-self.false c.if-not-self.true c.pick-self.ensures).1 }
 
 pub returns-then-not-self : goal.returns-then-not-self
 unfolding nil
@@ -22,9 +22,9 @@ pub returns-then-at-self-2 : goal.returns-then-at-self-2
 returns-then-at-self-2 c = let s = c.args.self.now in
     record { given = subst (λ (u : Bool). rest s.entries.now s.count s.root s.at u ≡ []) (sym c.if-not-self.false) (finished s.entries.now s.count s.root s.at c.if-at-self.false c.if-at-self-2.true); stays = refl; kept = refl }
 
-pub invariant-of-self-then-record : goal.invariant-of-self-then-record
+pub invariant_of-self-then-record : goal.invariant_of-self-then-record
 unfolding nil
-invariant-of-self-then-record c = let s = c.args.self.now in (s.inside, ((out s.entries.now s.count s.root s.at s.up s.ending c.if-at-self.false c.if-not-self.false c.if-at-self-2.false c.if-record.true).1, tt))
+invariant_of-self-then-record c = let s = c.args.self.now in record { inside = s.inside; ending = (out s.entries.now s.count s.root s.at s.up s.ending c.if-at-self.false c.if-not-self.false c.if-at-self-2.false c.if-record.true).1 }
 
 pub returns-then-record : goal.returns-then-record
 unfolding nil
@@ -34,9 +34,9 @@ pub returns-then-next-self : goal.returns-then-next-self
 unfolding nil
 returns-then-next-self c = let s = c.args.self.now in record { given = lost s.entries.now s.count s.root s.at s.up s.ending c.if-at-self.false c.if-not-self.false c.if-at-self-2.false c.if-record.false c.if-next-self.true; stays = refl; kept = refl }
 
-pub invariant-of-self-2 : goal.invariant-of-self-2
+pub invariant_of-self-2 : goal.invariant_of-self-2
 unfolding nil
-invariant-of-self-2 c = let s = c.args.self.now in (s.inside, ((onward s.entries.now s.count s.root s.at s.up s.ending c.pick-self-2.result c.if-at-self.false c.if-not-self.false c.if-at-self-2.false c.if-record.false c.if-next-self.false c.pick-self-2.ensures).1, tt))
+invariant_of-self-2 c = let s = c.args.self.now in record { inside = s.inside; ending = (onward s.entries.now s.count s.root s.at s.up s.ending c.pick-self-2.result c.if-at-self.false c.if-not-self.false c.if-at-self-2.false c.if-record.false c.if-next-self.false c.pick-self-2.ensures).1 }
 
 pub returns : goal.returns
 unfolding nil
