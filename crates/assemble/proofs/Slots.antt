@@ -1,4 +1,4 @@
-use Rattle.std.proofs.Common.{◌≡◌, ℕ, List, get_or, set, sym, ap, ◌∙◌, subst}
+use Rattle.std.proofs.Common.{◌≡◌, ℕ, List, get_or, set, sym, ap, ◌∙◌}
 use lib.Seq.{set-get_or}
 use Rattle.sections.specs.Section.{Section}
 use Rattle.assemble.specs.declared.slot.Slot.{Slot}

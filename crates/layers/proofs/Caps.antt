@@ -1,16 +1,16 @@
-use Rattle.std.proofs.Common.{◌≡◌, ℕ, ◌+◌, ◌-◌, ◌<◌, ◌≤◌, min, Bool, true, false, cond, ltb, List, [], ◌∷◌, ◌++◌, length, take, drop, replicate, ℤ, pos, Ok, Err, Result, sym, refl, ap, ◌∙◌, arith, length-append, length-drop, length-take, ltb-false, ltb-true, le-ltb, lt-ltb}
+use Rattle.std.proofs.Common.{◌≡◌, ℕ, ◌+◌, ◌-◌, ◌<◌, ◌≤◌, min, Bool, true, false, ltb, List, [], ◌∷◌, length, replicate, ℤ, pos, Ok, Err, sym, refl, ap, ◌∙◌, arith, length-append, ltb-false, ltb-true, le-ltb}
 use Rattle.std.proofs.lemmas.List.{length-replicate}
 use Rattle.numbers.specs.Orders.{bytes_of}
-use Rattle.numbers.specs.OrdersLemmas.{length_bytes_of}
+use Rattle.numbers.proofs.Orders.{length_bytes_of}
 use Rattle.numbers.specs.declared.common.SectionId.{SectionId}
 use Rattle.numbers.specs.declared.common.Address.{Address}
 use Rattle.numbers.specs.declared.common.Address.TheVariants.{Constant, Symbol}
 use Rattle.sections.specs.declared.fault.Fault.{Fault}
-use Rattle.sections.specs.declared.fault.Fault.TheVariants.{SectionFull, InvalidReference}
+use Rattle.sections.specs.declared.fault.Fault.TheVariants.{SectionFull}
 use Rattle.sections.specs.declared.note.Target.{Target}
 use Rattle.sections.specs.declared.note.Target.TheVariants as target
-use Rattle.sections.specs.Section.{Section, Act, Check, declining, becomes, verdict, append, place, number, number_into, note_end, note_into, note_of, with_note, grown, mended, over, full, past_end, over_end, no_note, offset, offset_at, offset_body, offset_into_body, word_checks, symbol_checks, address_checks, address_body, address, reference, capped}
-use Rattle.sections.proofs.Acts.{through, out, passed, append_fits, append_full, end_full, refused, checked, length_over}
+use Rattle.sections.specs.Section.{Section, Act, Check, declining, becomes, verdict, append, place, number, number_into, note_end, note_into, note_of, with_note, grown, mended, full, past_end, over_end, no_note, offset_at, offset_body, offset_into_body, word_checks, address_body, capped}
+use Rattle.sections.proofs.Acts.{through, out, passed, append_fits, append_full, end_full, checked, length_over}
 
 -- the same section with other bytes left
 with_left : ℕ → Section → Section

@@ -1,4 +1,4 @@
-use Rattle.std.proofs.Common.{◌≡◌, ℕ, ◌+◌, ◌-◌, ◌<◌, ◌≤◌, Bool, true, false, cond, not, ◌||◌, List, [], ◌∷◌, ◌++◌, length, replicate, ℤ, pos, Ok, Err, Result, sym, refl, ap, ◌∙◌, arith, w64, SFits, to_z, of_z}
+use Rattle.std.proofs.Common.{◌≡◌, ℕ, ◌+◌, ◌-◌, ◌≤◌, Bool, true, false, cond, List, [], ◌∷◌, length, replicate, ℤ, pos, Ok, Err, Result, sym, refl, ap, ◌∙◌, arith, w64, SFits, to_z, of_z}
 use mir.Syntax.{w128}
 use Rattle.std.proofs.lemmas.Int.{to_z-of_z}
 use Rattle.std.proofs.lemmas.List.{length-replicate}
@@ -12,7 +12,7 @@ use Rattle.numbers.specs.declared.common.Address.{Address}
 use Rattle.numbers.specs.declared.common.Address.TheVariants.{Symbol}
 use Rattle.sections.specs.Notes.{has, noted}
 use Rattle.layers.specs.Layers.{notes_of, relocated, symbol_end}
-use Rattle.sections.specs.Section.{Section, Act, becomes, append, place, note_end, note_into, note_of, with_note, grown, mended, full, past_end, over_end, no_note, offset, offset_at, offset_body, offset_into_body, address, verdict, word_checks, odd_size}
+use Rattle.sections.specs.Section.{Section, becomes, append, place, note_end, note_into, note_of, with_note, grown, mended, full, past_end, over_end, no_note, offset, offset_at, offset_body, offset_into_body, address, verdict, word_checks, odd_size}
 use Rattle.sections.proofs.Acts.{checked, refused, through, out, append_fits, place_fits, end_fits, into_fits}
 
 -- a call that sees no note is the call below

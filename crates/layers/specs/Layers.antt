@@ -1,4 +1,4 @@
-use Rattle.std.specs.Prelude.{ℕ, ◌+◌, ◌-◌, ◌≤◌, min, cond, List, [], ◌∷◌, length, take, ℤ, ◌==◌}
+use Rattle.std.specs.Prelude.{ℕ, ◌+◌, ◌-◌, ◌≤◌, cond, List, [], ◌∷◌, length, take, ℤ, ◌==◌}
 use Rattle.std.proofs.Common.{arith}
 use Rattle.sections.specs.declared.note.Note.{Note}
 use Rattle.layers.specs.declared.notes.Notes.{Notes}

@@ -1,3 +1,4 @@
 pub mod Cases
 pub mod Leb
+pub mod Orders
 mod Turns

@@ -1,6 +1,5 @@
 -- one turn of the loops that write LEB128 or count its bytes, after `len` bytes of ten
 use Rattle.std.proofs.Common.{◌≡◌, ℕ, suc, ◌+◌, ◌-◌, ◌*◌, ◌/◌, ◌%◌, ◌^◌, ◌<◌, ◌≤◌, true, false, List, [], ◌∷◌, ◌++◌, length, take, set, ℤ, sym, ap, ◌∙◌, subst, ⊎_elim, append_assoc, arith}
-use native.Mathlib.Numerals.{unary_clauses}
 use lib.Signed.{mag}
 use Rattle.std.proofs.lemmas.Nat.{div_below}
 use Rattle.std.proofs.lemmas.List.{take_more_set}

@@ -3,4 +3,4 @@ pub mod Common
 pub mod Encoded
 pub mod Leb
 pub mod Orders
-pub mod OrdersLemmas
+pub mod Reading

@@ -1,6 +1,6 @@
 ghost use Rattle.std.specs.Prelude.{◌≡◌, ℕ, ◌^◌, ◌<◌, Bool, true, false, not, if◌then◌else◌, Some, None, nat_lt};
 ghost use Rattle.numbers.specs.Orders.{bytes_of, halves_of, value_of, is_big};
-ghost use Rattle.numbers.specs.OrdersLemmas.{value_bytes_of};
+ghost use Rattle.numbers.specs.Reading.{value_bytes_of};
 
 mod bytes;
 

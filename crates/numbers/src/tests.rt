@@ -27,9 +27,9 @@ fn orders(rt: HostRuntime) -> Result<(), Fail> {
 #[test]
 fn leb(rt: HostRuntime) {
     let up = Leb128::unsigned(624_485);
-    assert_eq!(rt; up.bytes(), &[0xe5, 0x8e, 0x26]);
+    assert_eq!(rt; up.bytes(), [0xe5, 0x8e, 0x26].as_slice());
     let down = Leb128::signed(-123_456);
-    assert_eq!(rt; down.bytes(), &[0xc0, 0xbb, 0x78]);
+    assert_eq!(rt; down.bytes(), [0xc0, 0xbb, 0x78].as_slice());
     assert_eq!(rt; uleb128_size(u64::MAX), 10);
     assert_eq!(rt; sleb128_size(-65), 2);
     assert_eq!(rt; SectionId::DebugStrOffsets.name(), ".debug_str_offsets");

@@ -1,5 +1,5 @@
 -- The calls that lines say.
-use Rattle.std.specs.Prelude.{◌≡◌, ℕ, Bool, cond, List, [], ◌∷◌, drop, codes, slice_index_or}
+use Rattle.std.specs.Prelude.{◌≡◌, ℕ, cond, List, [], drop, codes, slice_index_or}
 use Rattle.numbers.specs.declared.common.Format.{Format}
 use Rattle.numbers.specs.declared.common.Format.TheVariants.{Dwarf32, Dwarf64}
 use Rattle.trees.specs.declared.records.Encoding.{Encoding}

@@ -1,5 +1,5 @@
 -- How a session begins.
-use Rattle.std.specs.Prelude.{◌≡◌, ℕ, ◌<◌, min, List, Some, codes}
+use Rattle.std.specs.Prelude.{◌≡◌, ℕ, min, List, Some, codes}
 use Rattle.numbers.specs.declared.endianity.RunTimeEndian.{RunTimeEndian}
 use Rattle.numbers.specs.declared.endianity.RunTimeEndian.TheVariants.{Little, Big}
 use Rattle.texts.specs.Texts.{number_of}

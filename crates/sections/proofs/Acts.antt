@@ -1,10 +1,8 @@
-use Rattle.std.proofs.Common.{◌≡◌, ℕ, ◌+◌, ◌-◌, ◌<◌, ◌≤◌, Bool, true, false, cond, not, ◌||◌, ltb, leb, List, [], ◌∷◌, ◌++◌, length, replicate, ℤ, Ok, Err, Result, sym, refl, ap, ◌∙◌, arith, length-append, length-drop, length-take, le-ltb, lt-ltb}
+use Rattle.std.proofs.Common.{◌≡◌, ℕ, ◌+◌, ◌<◌, ◌≤◌, Bool, true, false, cond, List, [], ◌∷◌, length, replicate, ℤ, Ok, Err, Result, sym, refl, ap, ◌∙◌, arith, length-append, length-drop, length-take, le-ltb, lt-ltb}
 use Rattle.std.proofs.lemmas.Bool.{cond-true, cond-false}
-use Rattle.std.proofs.lemmas.List.{length-replicate}
 use Rattle.sections.specs.declared.fault.Fault.{Fault}
 use Rattle.sections.specs.declared.fault.Fault.TheVariants.{SectionFull, OffsetOutOfBounds, LengthOutOfBounds, NotesFull}
 use Rattle.sections.specs.declared.note.Target.{Target}
-use Rattle.sections.specs.Notes.{has}
 use Rattle.sections.specs.Section.{Section, Act, Check, declining, verdict, becomes, append, place, note_end, note_into, note_of, with_note, grown, mended, over, full, past_end, over_end, no_note}
 
 -- the first reason holds

@@ -1,4 +1,4 @@
-use Rattle.std.proofs.Common.{◌≡◌, ℕ, true, false, List, [], ◌∷◌, length, Ok, Err, Result, sym, refl, ap, ◌∙◌}
+use Rattle.std.proofs.Common.{◌≡◌, ℕ, true, false, [], length, Ok, Err, Result, sym, ap, ◌∙◌}
 use Rattle.numbers.specs.Common.{word_size}
 use Rattle.numbers.specs.declared.common.Format.{Format}
 use Rattle.numbers.specs.declared.common.Format.TheVariants.{Dwarf32, Dwarf64}

@@ -1,8 +1,9 @@
-use Rattle.std.proofs.Common.{◌≡◌, ℕ, ◌+◌, ◌-◌, ◌^◌, ◌<◌, ◌≤◌, Bool, true, false, cond, not, ◌||◌, eqb, ltb, leb, ◌⊎◌, List, [], ◌∷◌, ◌++◌, length, take, drop, replicate, ℤ, pos, Some, None, Ok, Err, Option, Result, sym, refl, ap, ◌∙◌, subst, inl, inr, ⊎_elim, arith, length-append, length-drop, length-take, ltb-false, ne_eqb, eqb-true, leb-false}
+use Rattle.std.proofs.Common.{◌≡◌, ℕ, ◌+◌, ◌^◌, ◌<◌, ◌≤◌, Bool, true, false, ◌⊎◌, List, [], ◌∷◌, ◌++◌, length, take, drop, replicate, ℤ, pos, Some, None, Ok, Option, Result, sym, refl, ap, ◌∙◌, inl, inr, ⊎_elim, arith, length-append, length-drop, length-take, ltb-false, ne_eqb, leb-false}
 use Rattle.std.proofs.lemmas.List.{take-append-le, drop-append-le, length-replicate, ext_get_or, places, take_at, drop_at, length-take-le}
 use Rattle.std.proofs.lemmas.Bool.Decides.{nat_tests}
 use Rattle.numbers.specs.Orders.{bytes_of, value_of}
-use Rattle.numbers.specs.OrdersLemmas.{length_bytes_of, value_bytes_of}
+use Rattle.numbers.proofs.Orders.{length_bytes_of}
+use Rattle.numbers.specs.Reading.{value_bytes_of}
 use Rattle.numbers.specs.declared.common.Address.{Address}
 use Rattle.numbers.specs.declared.common.Address.TheVariants.{Constant, Symbol}
 use Rattle.numbers.specs.declared.common.SectionId.{SectionId}
@@ -10,9 +11,9 @@ use Rattle.sections.specs.declared.fault.Fault.{Fault}
 use Rattle.sections.specs.declared.note.Note.{Note}
 use Rattle.sections.specs.declared.note.Target.{Target}
 use Rattle.sections.specs.declared.note.Target.TheVariants as target
-use Rattle.sections.specs.Notes.{note_at, noted, has}
+use Rattle.sections.specs.Notes.{note_at, noted}
 use Rattle.sections.specs.Section.{Section, Act, Check, declining, becomes, append, place, number, number_into, note_end, note_into, note_of, with_note, grown, mended, over, full, past_end, over_end, no_note, address, address_checks, address_body, offset, offset_at, offset_body, offset_into_body, reference, symbol_checks, udata_at, word_checks, odd_size, too_large}
-use Rattle.sections.specs.Places.{number_at, Appending, these_bytes, an_address, an_offset, a_symbol, appending, Overwriting, bytes_at, an_offset_at, overwriting, start, extent, Clear, AppendKeeps, OverwriteKeeps, WordSays, OffsetSays, NumbersStand}
+use Rattle.sections.specs.Places.{number_at, these_bytes, an_address, an_offset, a_symbol, bytes_at, an_offset_at, AppendKeeps, OverwriteKeeps, WordSays, OffsetSays, NumbersStand}
 use Rattle.sections.proofs.Acts.{passed}
 
 -- what a call that declines for reasons leaves: the section as it was, or what its body leaves where no reason holds

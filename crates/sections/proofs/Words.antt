@@ -1,7 +1,7 @@
-use Rattle.std.proofs.Common.{◌≡◌, ℕ, zero, suc, ◌+◌, ◌-◌, ◌/◌, ◌%◌, ◌≤◌, Bool, true, false, List, [], ◌∷◌, ◌++◌, reverse, length, take, drop, ℤ, Ok, Err, Result, sym, refl, ap, ◌∙◌, suc-add, arith, length-drop}
+use Rattle.std.proofs.Common.{◌≡◌, ℕ, zero, suc, ◌+◌, ◌-◌, ◌/◌, ◌%◌, ◌≤◌, Bool, true, false, List, ◌∷◌, reverse, length, take, drop, ℤ, Ok, Err, Result, sym, refl, ap, ◌∙◌, suc-add, arith, length-drop}
 use Rattle.std.proofs.lemmas.List.{length-reverse, reverse-append, take-append-drop, drop_at, take_all}
 use Rattle.numbers.specs.Orders.{bytes_of, digits}
-use Rattle.numbers.specs.OrdersLemmas.{length_digits}
+use Rattle.numbers.proofs.Orders.{length_digits}
 use Rattle.numbers.specs.declared.common.Address.{Address}
 use Rattle.numbers.specs.declared.common.Address.TheVariants.{Constant, Symbol}
 use Rattle.sections.specs.declared.fault.Fault.TheVariants.{InvalidAddress}

@@ -1,10 +1,10 @@
-use Rattle.std.specs.Prelude.{ℕ, Bool, true, false, List, [], ◌∷◌, length, Ok, Err, nat_le}
+use Rattle.std.specs.Prelude.{ℕ, Bool, false, [], ◌∷◌, length, Ok, nat_le}
 use Rattle.numbers.specs.Common.{word_size}
 use Rattle.numbers.specs.declared.common.Format.{Format}
 use Rattle.numbers.specs.declared.common.Format.TheVariants.{Dwarf32, Dwarf64}
 use Rattle.sections.specs.declared.fault.Fault.TheVariants.{ValueTooLarge}
 use Rattle.sections.specs.declared.token.InitialLengthOffset.{InitialLengthOffset}
-use Rattle.sections.specs.Section.{Section, Act, declining, number, udata, udata_at, onward, ◌⨟◌}
+use Rattle.sections.specs.Section.{Act, declining, number, udata, udata_at, onward, ◌⨟◌}
 
 -- a 64-bit length stands after four bytes of ff
 unfoldable pub escape : Format → Act Unit

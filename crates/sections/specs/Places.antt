@@ -1,4 +1,4 @@
-use Rattle.std.specs.Prelude.{◌≡◌, ℕ, ◌+◌, ◌<◌, ◌≤◌, Bool, true, false, ◌⊎◌, List, length, take, drop, ℤ, pos, Some, None, Ok, Err}
+use Rattle.std.specs.Prelude.{◌≡◌, ℕ, ◌+◌, ◌<◌, ◌≤◌, Bool, false, ◌⊎◌, List, length, take, drop, ℤ, pos, Some, None, Ok}
 use Rattle.numbers.specs.Orders.{value_of}
 use Rattle.numbers.specs.declared.common.Address.{Address}
 use Rattle.numbers.specs.declared.common.SectionId.{SectionId}

@@ -2,7 +2,7 @@ use Rattle.std.proofs.Common.{◌≡◌, ℕ, zero, suc, Bool, true, false, cond
 use Rattle.trees.specs.declared.records.EditFault.{EditFault}
 use Rattle.trees.specs.declared.records.Reservation.{Reservation}
 use Rattle.trees.specs.declared.records.State.TheVariants.{GivenBack, TakenOut}
-use Rattle.trees.specs.Model.{Entry, Table, no_entry, unless, change, grant, place, take_out, with_entries, become, left, placed, adopt, abandon, flagged, amend, put, unname, entry_of, entry_id, knows, knows_both, is_waiting, first_fault, edit_checks, as_is}
+use Rattle.trees.specs.Model.{Entry, Table, no_entry, unless, change, grant, place, take_out, with_entries, left, placed, adopt, abandon, flagged, amend, put, unname, entry_of, entry_id, knows, knows_both, is_waiting, first_fault, edit_checks, as_is}
 use Rattle.trees.specs.Lists.{has}
 use Rattle.trees.specs.Growth.{Deeds, Grows}
 use Rattle.scripts.specs.declared.call.Edit.{Edit}

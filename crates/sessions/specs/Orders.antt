@@ -1,5 +1,4 @@
 -- What an order makes of a table.
-use Rattle.std.specs.Prelude.{ℕ, Bool, Result}
 use Rattle.trees.specs.Model.{Table, add_unit, reserve, add_reserved, add, give_back, delete_child, set_sibling, set_attribute, delete_attribute}
 use Rattle.trees.specs.Growth.{Deed, Deed.unit_added, Deed.reserved, Deed.reserved_added, Deed.entry_added, Deed.gave_back, Deed.child_deleted, Deed.sibling_set, Deed.attribute_set, Deed.attribute_deleted}
 use Rattle.sessions.specs.declared.order.Order.{Order}

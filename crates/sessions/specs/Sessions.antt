@@ -1,7 +1,6 @@
 -- What a session keeps of its table's answers: the unit of each entry granted, and the reservations not spent.
-use Rattle.std.specs.Prelude.{◌≡◌, ℕ, ◌<◌, Bool, true, false, List, [], ◌∷◌, ◌++◌, length, Ok, Err, Result, slice_index_or}
+use Rattle.std.specs.Prelude.{◌≡◌, ℕ, ◌<◌, List, [], ◌∷◌, ◌++◌, length, Ok, Err, slice_index_or}
 use Rattle.std.specs.List.{remove}
-use Rattle.trees.specs.declared.records.UnitId.{UnitId}
 use Rattle.trees.specs.declared.records.UnitEntryId.{UnitEntryId}
 use Rattle.trees.specs.declared.records.Reservation.{Reservation}
 use Rattle.trees.specs.declared.records.AttributeValue.{AttributeValue}

@@ -1,6 +1,6 @@
-use Rattle.std.proofs.Common.{◌≡◌, ℕ, ◌+◌, ◌-◌, ◌*◌, ◌/◌, ◌%◌, ◌<◌, ◌≤◌, Bool, true, cond, List, [], ◌∷◌, ◌++◌, length, get_or, take, drop, ℤ, Some, None, Option, sym, refl, ap, ◌∙◌, arith}
+use Rattle.std.proofs.Common.{◌≡◌, ℕ, ◌+◌, ◌-◌, ◌*◌, ◌/◌, ◌%◌, ◌<◌, ◌≤◌, true, cond, List, [], ◌∷◌, ◌++◌, length, get_or, take, drop, ℤ, Some, None, Option, sym, refl, ap, ◌∙◌, arith}
 use Rattle.std.proofs.lemmas.List.{take_rest, drop_more, at_drop_more, at_drop_all}
-use Rattle.texts.specs.Texts.{onto, one_more, value_in, some_digits_of, hexed, number_of, minus, plus, dashed, signed_of, byte_of, bytes_after, bytes_from}
+use Rattle.texts.specs.Texts.{onto, one_more, value_in, some_digits_of, hexed, number_of, minus, plus, dashed, signed_of, byte_of, bytes_after}
 
 -- a digit more
 step : (base n : ℕ) (xs : List ℕ) (i : ℕ) → i < length xs → value_in base n (drop i xs) ≡ onto (λ m. value_in base m (drop (i + 1) xs)) (one_more base n (get_or xs i 0))

@@ -1,19 +1,17 @@
 -- An entry is taken out of its parent's list.
-use Rattle.std.proofs.Common.{◌≡◌, ℕ, zero, suc, ◌+◌, ◌-◌, ◌<◌, ◌≤◌, Bool, true, false, cond, not, eqb, ltb, ◌≢◌, ◌⊎◌, List, [], ◌∷◌, ◌++◌, map, length, get_or, set, sym, refl, ap, ◌∙◌, subst, inl, inr, arith, length-set}
-use mathlib.Core.Path.{fun_ext}
-use Rattle.std.proofs.lemmas.Bool.{cases_lt, cases_eq, eqb-true, eqb-false, eq-eqb, ne_eqb, lt-ltb, le-ltb, cond-true, cond-false, true≢false}
-use Rattle.trees.specs.declared.records.Attribute.{Attribute}
+use Rattle.std.proofs.Common.{◌≡◌, ℕ, ◌<◌, ◌≤◌, Bool, true, false, cond, not, eqb, ltb, ◌≢◌, List, length, get_or, sym, refl, ap, ◌∙◌, subst, inl, inr, arith, length-set}
+use Rattle.std.proofs.lemmas.Bool.{cases_eq, eqb-true, eq-eqb, ne_eqb, lt-ltb, cond-true, cond-false}
 use Rattle.trees.specs.declared.records.UnitRecord.{UnitRecord}
 use Rattle.trees.specs.declared.records.EntryRecord.{EntryRecord}
 use Rattle.trees.specs.declared.records.AttributeRecord.{AttributeRecord}
 use Rattle.trees.specs.declared.records.State.{State}
 use Rattle.trees.specs.declared.records.Note.{Note}
-use Rattle.trees.specs.declared.records.State.TheVariants.{Root, Waiting, Placed, TakenOut, GivenBack}
-use Rattle.trees.specs.Lists.{nil, Links, kids, Mem, has, last_or, without, Before}
+use Rattle.trees.specs.declared.records.State.TheVariants.{TakenOut}
+use Rattle.trees.specs.Lists.{nil, Links, kids, has, last_or, without, Before}
 use Rattle.trees.specs.Model.{Entry, no_unit, change, abandon, left}
 use Rattle.trees.specs.Stores.{modify, loose_record, with_ends, with_last, with_next, unlinked_first, unlinked_after, last_without}
 use Rattle.trees.specs.View.{blank, kin, holdings, attributes_at, entry_at, entries_in, kind, Sound}
-use Rattle.trees.proofs.Families.{Good, Removing, remove_good, removed, dropped, last_left, mem_without, has_mem, mem_has, before_not}
+use Rattle.trees.proofs.Families.{Good, Removing, remove_good, dropped, last_left, mem_without, has_mem, mem_has, before_not}
 use Rattle.trees.proofs.Views.{along, nx, fs, ls, pa, un, at, st, tg, sb, nt, upd, upd_at, upd_off, held_path, length_entries, entries_at, entries_are, change_at, length_change, kin_good, held_good}
 use Rattle.trees.proofs.Trees.{Stepped, changes, keeps, at_point, small, root_not}
 

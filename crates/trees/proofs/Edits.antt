@@ -1,19 +1,17 @@
 -- What the checks of an edit tell, over the records.
-use Rattle.std.proofs.Common.{◌≡◌, ℕ, ◌+◌, ◌-◌, ◌<◌, ◌≤◌, Bool, true, false, cond, not, ◌&&◌, ◌||◌, eqb, ltb, ◌≢◌, ◌⊎◌, List, [], ◌∷◌, ◌++◌, length, get_or, take, Some, None, Ok, Err, Option, Result, sym, refl, ap, ◌∙◌, subst, inl, inr, arith}
-use Rattle.std.proofs.lemmas.Bool.{cases_lt, and_parts, ltb-true, eqb-true, lt-ltb, le-ltb, eq-eqb, ne_eqb, not-true, true≢false, and_left, or_from, or_left, or_right}
+use Rattle.std.proofs.Common.{◌≡◌, ℕ, ◌+◌, ◌-◌, ◌<◌, ◌≤◌, Bool, true, false, not, ◌&&◌, eqb, ltb, List, [], ◌∷◌, length, get_or, Some, None, Ok, Err, Option, Result, sym, refl, ap, ◌∙◌, arith}
+use Rattle.std.proofs.lemmas.Bool.{and_parts, ltb-true, eqb-true, lt-ltb, le-ltb, eq-eqb, ne_eqb, not-true, true≢false, and_left}
 use Rattle.std.proofs.lemmas.List.{get_or-take, length-take-le, get_or_push, get_or_append_left}
 use Rattle.trees.specs.declared.records.UnitEntryId.{UnitEntryId}
 use Rattle.trees.specs.declared.records.UnitId.{UnitId}
 use Rattle.trees.specs.declared.records.Records.{Records}
-use Rattle.trees.specs.declared.records.EntryRecord.{EntryRecord}
-use Rattle.trees.specs.declared.records.UnitRecord.{UnitRecord}
 use Rattle.trees.specs.declared.records.State.{State}
 use Rattle.trees.specs.declared.records.State.TheVariants.{Root, Waiting, Placed, TakenOut, GivenBack}
 use Rattle.trees.specs.declared.records.EditFault.{EditFault}
 use Rattle.trees.specs.declared.records.EditFault.TheVariants.{UnitWritten, TableFull}
 use Rattle.trees.specs.declared.table.UnitTable.{UnitTable}
 use Rattle.trees.specs.Model.{Entry, Table, Check, entry_of, unit_of, no_entry, no_unit, is_waiting, is_given_back, knows, knows_unit, knows_both, first_fault, edit_checks, passes, unless, grant, new_entry}
-use Rattle.trees.specs.View.{view, Holds, blank, entries_in, entry_at}
+use Rattle.trees.specs.View.{view, Holds, entry_at}
 use Rattle.trees.proofs.Views.{un, st, length_entries, entries_at}
 
 pub holds : (t : UnitTable) → Holds t.records

@@ -1,11 +1,11 @@
 -- A table in which nothing is in use yet.
-use Rattle.std.proofs.Common.{◌≡◌, ℕ, zero, suc, ◌+◌, ◌-◌, ◌<◌, ◌≤◌, min, Bool, true, false, cond, eqb, ltb, List, [], ◌∷◌, length, take, sym, refl, ap, ◌∙◌, subst, inl, inr, arith, length-take}
+use Rattle.std.proofs.Common.{◌≡◌, ℕ, zero, suc, ◌≤◌, min, cond, eqb, ltb, List, [], length, take, sym, refl, ap, ◌∙◌, subst, inl, inr, arith, length-take}
 use Rattle.std.proofs.lemmas.List.{take_all}
 use Rattle.std.proofs.lemmas.Bool.{cases_eq, cases_lt, eq-eqb, ne_eqb, le-ltb, cond-true, cond-false}
 use Rattle.trees.specs.declared.records.UnitRecord.{UnitRecord}
 use Rattle.trees.specs.declared.records.EntryRecord.{EntryRecord}
 use Rattle.trees.specs.declared.records.AttributeRecord.{AttributeRecord}
-use Rattle.trees.specs.Lists.{nil, stop, kids, Links, Mem}
+use Rattle.trees.specs.Lists.{nil, stop, kids, Mem}
 use Rattle.trees.specs.View.{kin, holdings, Sound, entries_in}
 use Rattle.trees.proofs.Families.{chain_nil}
 use Rattle.trees.proofs.Views.{fs, at, entries_are}

@@ -1,6 +1,6 @@
 -- Families of lists that lie in one array: what linking in and taking out make of them.
-use Rattle.std.proofs.Common.{◌≡◌, ℕ, zero, suc, ◌+◌, ◌-◌, ◌<◌, ◌≤◌, Bool, true, false, cond, eqb, ltb, ◌≢◌, ◌⊎◌, List, [], ◌∷◌, ◌++◌, length, get_or, sym, refl, ap, ◌∙◌, subst, inl, inr, arith}
-use Rattle.std.proofs.lemmas.Bool.{cases_lt, cases_eq, eqb-true, eqb-false, eq-eqb, ne_eqb, cond-true, cond-false, or_left, or_right, or_cases, cases_Bool, true≢false}
+use Rattle.std.proofs.Common.{◌≡◌, ℕ, zero, suc, ◌<◌, ◌≤◌, Bool, true, false, cond, eqb, ◌≢◌, ◌⊎◌, List, [], ◌∷◌, ◌++◌, length, sym, refl, ap, ◌∙◌, subst, inl, inr, arith}
+use Rattle.std.proofs.lemmas.Bool.{cases_eq, eqb-true, eq-eqb, ne_eqb, cond-true, cond-false, or_left, or_right, or_cases, cases_Bool, true≢false}
 use Rattle.trees.specs.Lists.{nil, chain, stop, Mem, last_or, without, has, Links, kids, Ends, Owned, Before}
 use Rattle.trees.proofs.Segs.{Seg, Below, short, fresh, frame, push, last_mem, unlink, unlink_first, without_here, without_past, after_mem, chain_seg, seg_chain, chain_no_nil}
 

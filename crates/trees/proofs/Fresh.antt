@@ -1,20 +1,19 @@
 -- A new entry, in a unit of the table or as the root of a new one.
-use Rattle.std.proofs.Common.{◌≡◌, ℕ, zero, suc, ◌+◌, ◌-◌, ◌<◌, ◌≤◌, Bool, true, false, cond, not, eqb, ltb, ◌≢◌, ◌⊎◌, List, [], ◌∷◌, ◌++◌, map, length, get_or, set, sym, refl, ap, ◌∙◌, subst, inl, inr, arith, length-set}
+use Rattle.std.proofs.Common.{◌≡◌, ℕ, suc, ◌+◌, ◌-◌, ◌<◌, ◌≤◌, false, cond, not, eqb, ltb, ◌≢◌, List, [], ◌∷◌, ◌++◌, map, length, get_or, set, sym, refl, ap, ◌∙◌, subst, inl, inr, arith, length-set}
 use mathlib.Core.Path.{fun_ext}
 use Rattle.std.proofs.lemmas.List.{get_or-set_same, get_or-set_other, length_push, get_or_push, get_or_append_left}
-use Rattle.std.proofs.lemmas.Bool.{cases_lt, cases_eq, eqb-true, eqb-false, eq-eqb, ne_eqb, lt-ltb, le-ltb, cond-true, cond-false}
-use Rattle.trees.specs.declared.records.Attribute.{Attribute}
+use Rattle.std.proofs.lemmas.Bool.{cases_lt, cases_eq, eq-eqb, ne_eqb, lt-ltb, le-ltb, cond-true, cond-false}
 use Rattle.trees.specs.declared.records.UnitRecord.{UnitRecord}
 use Rattle.trees.specs.declared.records.EntryRecord.{EntryRecord}
 use Rattle.trees.specs.declared.records.AttributeRecord.{AttributeRecord}
 use Rattle.trees.specs.declared.records.State.{State}
-use Rattle.trees.specs.Lists.{nil, Links, kids, Mem, has, last_or}
-use Rattle.trees.specs.Model.{Entry, no_entry, no_unit, new_entry}
+use Rattle.trees.specs.Lists.{nil, Links, kids, has, last_or}
+use Rattle.trees.specs.Model.{no_entry, no_unit, new_entry}
 use Rattle.trees.specs.Stores.{fresh_record}
 use Rattle.trees.specs.View.{blank, no_attribute, kin, holdings, attributes_at, entry_from, entry_at, entries_in, kind, Sound, Sized}
 use Rattle.trees.proofs.Families.{Good, framed, chain_nil}
-use Rattle.trees.proofs.Views.{nx, fs, ls, pa, un, at, st, tg, sb, length_entries, entries_at, entries_are, kin_good, held_good}
-use Rattle.trees.proofs.Trees.{small, parent_in}
+use Rattle.trees.proofs.Views.{fs, ls, pa, un, at, st, length_entries, entries_at, entries_are, kin_good, held_good}
+use Rattle.trees.proofs.Trees.{parent_in}
 
 module _ (us : List UnitRecord) (m : ℕ) (es : List EntryRecord) (n : ℕ) (ats : List AttributeRecord) (k free size : ℕ) (S : Sound us m es n ats k free size)
     (u : ℕ) (s : State) (tag : ℕ) (room : n < length es) where

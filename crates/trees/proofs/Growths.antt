@@ -1,8 +1,8 @@
 -- The law of the trees by histories, for each call of the model.
-use Rattle.std.proofs.Common.{◌≡◌, ℕ, zero, suc, ◌+◌, ◌-◌, ◌<◌, ◌≤◌, Bool, true, false, cond, not, ◌&&◌, ◌||◌, eqb, ltb, ◌≢◌, ◌⊎◌, List, [], ◌∷◌, ◌++◌, length, get_or, Some, None, Ok, Err, Option, Result, sym, refl, ap, ◌∙◌, subst, inl, inr, arith}
+use Rattle.std.proofs.Common.{◌≡◌, ℕ, ◌+◌, ◌<◌, ◌≤◌, Bool, true, false, cond, not, ◌&&◌, ◌||◌, eqb, List, [], ◌∷◌, ◌++◌, length, get_or, Some, None, Ok, Err, Option, Result, sym, refl, ap, ◌∙◌, subst, inl, inr, arith}
 use mathlib.Core.Path.{fun_ext}
 use Rattle.std.proofs.lemmas.List.{get_or_push, get_or_past, get_or_append_left, length_push}
-use Rattle.std.proofs.lemmas.Bool.{cases_lt, cases_eq, eq-eqb, ne_eqb, cond-true, and_parts}
+use Rattle.std.proofs.lemmas.Bool.{cases_lt, cases_eq, eq-eqb, ne_eqb, and_parts}
 use Rattle.trees.specs.declared.records.State.{State}
 use Rattle.trees.specs.declared.records.State.TheVariants.{Root, Waiting, TakenOut, GivenBack}
 use Rattle.trees.specs.declared.records.Refusal.{Refusal}
@@ -14,8 +14,8 @@ use Rattle.trees.specs.declared.records.Encoding.{Encoding}
 use Rattle.trees.specs.declared.records.LineProgram.{LineProgram}
 use Rattle.trees.specs.declared.records.EditFault.TheVariants.{SessionClosed, TableFull, NotWaiting}
 use Rattle.trees.specs.Lists.{has}
-use Rattle.trees.specs.Model.{Entry, Table, Check, no_entry, entry_of, unit_of, change, new_entry, unless, as_is, is_waiting, first_fault, edit_checks, knows, knows_unit, knows_both, entry_id, place, placed, adopt, abandon, left, with_entries, take_out, grant, open_unit, new_id, new_reservation, new_table, add_unit, reserve, add_reserved, add, give_back, delete_child}
-use Rattle.trees.specs.Growth.{Deed, Deed.unit_added, Deed.reserved, Deed.reserved_added, Deed.entry_added, Deed.gave_back, Deed.child_deleted, Deeds, Contents, contents_of, contents_in, nothing, tagged, gains, loses, at, grown, makes_entries, entries_by, contents_by, Grows}
+use Rattle.trees.specs.Model.{Entry, Table, Check, no_entry, entry_of, change, new_entry, unless, as_is, is_waiting, first_fault, edit_checks, knows, knows_unit, knows_both, entry_id, place, placed, adopt, abandon, left, with_entries, take_out, grant, open_unit, new_id, new_reservation, new_table, add_unit, reserve, add_reserved, add, give_back, delete_child}
+use Rattle.trees.specs.Growth.{Deed, Deed.unit_added, Deed.reserved, Deed.reserved_added, Deed.entry_added, Deed.gave_back, Deed.child_deleted, Deeds, Contents, contents_of, contents_in, nothing, tagged, gains, loses, at, grown, makes_entries, entries_by, Grows}
 use Rattle.trees.proofs.Views.{change_at, length_change}
 use Rattle.trees.proofs.Laws.{cleared, known_used}
 

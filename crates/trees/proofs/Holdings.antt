@@ -1,20 +1,19 @@
 -- The steps on attributes, over the records.
-use Rattle.std.proofs.Common.{◌≡◌, ℕ, zero, suc, ◌+◌, ◌-◌, ◌<◌, ◌≤◌, Bool, true, false, cond, not, eqb, ltb, ◌≢◌, ◌⊎◌, List, [], ◌∷◌, ◌++◌, map, length, get_or, set, sym, refl, ap, ◌∙◌, subst, inl, inr, arith, length-set}
-use mathlib.Core.Path.{fun_ext}
-use Rattle.std.proofs.lemmas.Bool.{cases_lt, cases_eq, eqb-true, eqb-false, eq-eqb, ne_eqb, lt-ltb, le-ltb, cond-true, cond-false, true≢false, or_parts, or_from, or_left, or_right}
-use Rattle.std.proofs.lemmas.List.{length_push, map-append}
+use Rattle.std.proofs.Common.{◌≡◌, ℕ, ◌+◌, ◌<◌, ◌≤◌, Bool, true, false, cond, not, eqb, ltb, ◌≢◌, List, [], ◌∷◌, ◌++◌, map, length, get_or, set, sym, refl, ap, ◌∙◌, subst, inl, inr, arith, length-set}
+use Rattle.std.proofs.lemmas.Bool.{cases_eq, eq-eqb, ne_eqb, lt-ltb, le-ltb, cond-true, cond-false, true≢false, or_parts, or_left, or_right}
+use Rattle.std.proofs.lemmas.List.{map-append}
 use Rattle.trees.specs.declared.records.Attribute.{Attribute}
 use Rattle.trees.specs.declared.records.UnitRecord.{UnitRecord}
 use Rattle.trees.specs.declared.records.EntryRecord.{EntryRecord}
 use Rattle.trees.specs.declared.records.AttributeRecord.{AttributeRecord}
 use Rattle.trees.specs.declared.records.State.{State}
 use Rattle.trees.specs.Lists.{nil, chain, stop, Links, kids, Mem, has, last_or, without, Before}
-use Rattle.trees.specs.Model.{Entry, no_entry, no_unit, change, amend, named, put, unname}
-use Rattle.trees.specs.View.{blank, no_attribute, kin, holdings, attributes_at, entry_from, entry_at, entries_in, kind, Sound, Sized}
+use Rattle.trees.specs.Model.{Entry, no_unit, change, amend, named, put, unname}
+use Rattle.trees.specs.View.{blank, no_attribute, kin, holdings, attributes_at, entry_at, entries_in, kind, Sound, Sized}
 use Rattle.trees.specs.Attributes.{attribute_in}
 use Rattle.trees.proofs.Segs.{without_here, without_past}
-use Rattle.trees.proofs.Families.{Good, Appending, append_good, Heading, head_good, Removing, remove_good, removed, wider, added, headed, dropped, chain_step, chain_nil, once, before_not, last_in}
-use Rattle.trees.proofs.Views.{along, nx, fs, ls, pa, un, at, st, tg, sb, nt, upd, upd_at, upd_off, at_set, field, kept, kin_path, length_entries, entries_at, entries_are, change_at, length_change, kin_good, held_good}
+use Rattle.trees.proofs.Families.{Good, Appending, append_good, Heading, head_good, Removing, remove_good, removed, wider, added, headed, dropped, chain_step, chain_nil, once}
+use Rattle.trees.proofs.Views.{nx, fs, ls, pa, un, at, st, tg, sb, nt, upd, upd_at, upd_off, field, kept, kin_path, length_entries, entries_at, entries_are, change_at, length_change, kin_good, held_good}
 use Rattle.trees.proofs.Trees.{at_point}
 
 -- names among attributes

@@ -1,5 +1,5 @@
 -- The stores that link an attribute's record in or out, at the front of an entry's list or further on.
-use Rattle.std.proofs.Common.{◌≡◌, ℕ, ◌+◌, ◌-◌, ◌<◌, ◌≤◌, Bool, true, false, cond, ◌≢◌, ◌⊎◌, List, [], ◌∷◌, ◌++◌, map, length, get_or, set, sym, refl, ap, ◌∙◌, subst, inl, inr, arith, length-set}
+use Rattle.std.proofs.Common.{◌≡◌, ℕ, ◌<◌, false, ◌≢◌, List, [], ◌∷◌, ◌++◌, map, length, get_or, set, sym, refl, ap, ◌∙◌, subst, arith, length-set}
 use Rattle.trees.specs.declared.records.Attribute.{Attribute}
 use Rattle.trees.specs.declared.records.UnitRecord.{UnitRecord}
 use Rattle.trees.specs.declared.records.EntryRecord.{EntryRecord}
@@ -8,8 +8,8 @@ use Rattle.trees.specs.Lists.{nil, Links, kids, Mem, last_or, Before}
 use Rattle.trees.specs.Model.{Entry, change, amend, named, unname}
 use Rattle.trees.specs.View.{blank, no_attribute, holdings, entries_in, Sound}
 use Rattle.trees.specs.Attributes.{attribute_in}
-use Rattle.trees.proofs.Families.{before_not, last_in}
-use Rattle.trees.proofs.Views.{along, at, upd, upd_at, upd_off, field, kept, held_good}
+use Rattle.trees.proofs.Families.{last_in}
+use Rattle.trees.proofs.Views.{at, upd, upd_at, upd_off, field, kept}
 use Rattle.trees.proofs.Trees.{at_point}
 use Rattle.trees.proofs.Holdings.{still, still_set, link_sound, link_view, link_left, unlink_sound, unlink_loose, unlink_view, unlink_left}
 

@@ -1,7 +1,7 @@
 -- The law of histories, for each call of the model.
-use Rattle.std.proofs.Common.{◌≡◌, ℕ, zero, suc, ◌+◌, ◌-◌, ◌<◌, ◌≤◌, Bool, true, false, cond, not, ◌&&◌, ◌||◌, eqb, ltb, ◌≢◌, ◌⊎◌, List, [], ◌∷◌, ◌++◌, length, get_or, set, Some, None, Ok, Err, Option, Result, sym, refl, ap, ◌∙◌, subst, inl, inr, arith, length-set}
+use Rattle.std.proofs.Common.{◌≡◌, ℕ, zero, suc, ◌+◌, ◌<◌, Bool, true, false, cond, not, ◌&&◌, ◌||◌, eqb, ltb, ◌⊎◌, List, [], ◌∷◌, ◌++◌, length, get_or, set, Some, None, Ok, Err, Option, Result, sym, refl, ap, ◌∙◌, subst, inl, inr, arith}
 use Rattle.std.proofs.lemmas.List.{get_or_push, get_or_append_left, length_push}
-use Rattle.std.proofs.lemmas.Bool.{cases_lt, cases_eq, eqb-true, eq-eqb, ne_eqb, lt-ltb, le-ltb, ltb-true, cond-true, cond-false, true≢false, and_parts, cases_Bool}
+use Rattle.std.proofs.lemmas.Bool.{cases_lt, cases_eq, eq-eqb, ne_eqb, lt-ltb, le-ltb, ltb-true, cond-true, cond-false, true≢false, and_parts, cases_Bool}
 use Rattle.trees.specs.declared.records.UnitId.{UnitId}
 use Rattle.trees.specs.declared.records.UnitEntryId.{UnitEntryId}
 use Rattle.trees.specs.declared.records.Reservation.{Reservation}
@@ -14,7 +14,7 @@ use Rattle.trees.specs.declared.records.LineProgram.{LineProgram}
 use Rattle.trees.specs.declared.records.EditFault.TheVariants.{SessionClosed, TableFull, NotWaiting}
 use Rattle.trees.specs.Lists.{has}
 use Rattle.trees.specs.Model.{Entry, Table, Check, no_entry, entry_of, unit_of, change, new_entry, unless, as_is, is_waiting, first_fault, edit_checks, knows, knows_unit, knows_both, entry_id, place, placed, adopt, abandon, left, with_entries, take_out, grant, open_unit, new_id, new_reservation, new_table, add_unit, reserve, add_reserved, add, give_back, delete_child}
-use Rattle.trees.specs.History.{Act, Act.unit_added, Act.reserved, Act.reserved_added, Act.entry_added, Act.gave_back, Act.child_deleted, Act.edited, History, times, makes, remade, state_by, grants, granted, of_state, state_in, is_state, in_state, Listed, Stands}
+use Rattle.trees.specs.History.{Act, Act.unit_added, Act.reserved, Act.reserved_added, Act.entry_added, Act.gave_back, Act.child_deleted, Act.edited, History, times, makes, remade, state_by, grants, of_state, state_in, is_state, in_state, Listed, Stands}
 use Rattle.trees.proofs.Views.{change_at, length_change}
 
 -- the four states together

@@ -1,12 +1,12 @@
 -- The walk by links gives the events of the tree, and ends.
-use Rattle.std.proofs.Common.{◌≡◌, ℕ, zero, suc, ◌+◌, ◌-◌, ◌<◌, ◌≤◌, Bool, true, false, cond, ◌&&◌, ◌||◌, eqb, ltb, ◌≢◌, ◌⊎◌, List, [], ◌∷◌, ◌++◌, length, get_or, sym, refl, ap, ◌∙◌, subst, inl, inr, arith}
+use Rattle.std.proofs.Common.{◌≡◌, ℕ, zero, suc, ◌+◌, ◌<◌, ◌≤◌, Bool, true, false, eqb, ◌≢◌, List, [], ◌∷◌, ◌++◌, length, sym, refl, ap, ◌∙◌, inl, inr, arith}
 use Rattle.std.specs.List.{flat_map}
 use Rattle.std.proofs.lemmas.List.{append-nil, append_assoc}
-use Rattle.std.proofs.lemmas.Bool.{cases_lt, cases_eq, cases_Bool, eqb-true, eqb-false, eq-eqb, ne_eqb, lt-ltb, cond-true, cond-false, true≢false}
+use Rattle.std.proofs.lemmas.Bool.{eq-eqb, ne_eqb, lt-ltb, true≢false}
 use Rattle.trees.specs.declared.records.Event.{Event}
 use Rattle.trees.specs.declared.records.Event.TheVariants.{Enter, Leave}
-use Rattle.trees.specs.Lists.{nil, chain, stop, Mem}
-use Rattle.trees.specs.Walk.{events, closing, halt, to_e, to_u, emit, run, ends, weigh, cost}
+use Rattle.trees.specs.Lists.{nil, Mem}
+use Rattle.trees.specs.Walk.{events, halt, to_e, to_u, emit, run, ends, weigh, cost}
 use Rattle.trees.proofs.Segs.{Seg, Below, short}
 
 module _ (fs nx pa : ℕ → ℕ) (n root : ℕ) where

@@ -1,13 +1,12 @@
 -- A unit is marked: its root stays, and so does everything else.
-use Rattle.std.proofs.Common.{◌≡◌, ℕ, ◌+◌, ◌-◌, ◌<◌, ◌≤◌, List, length, get_or, take, set, sym, refl, ap, ◌∙◌, subst, inl, inr, arith, length-set}
-use Rattle.std.proofs.lemmas.Bool.{cases_eq}
+use Rattle.std.proofs.Common.{◌≡◌, ℕ, ◌<◌, ◌≤◌, List, length, get_or, take, set, sym, ap, ◌∙◌, subst, arith, length-set}
 use Rattle.std.proofs.lemmas.List.{ext_get_or, get_or-take, length-take-le}
 use Rattle.trees.specs.declared.records.UnitRecord.{UnitRecord}
 use Rattle.trees.specs.declared.records.EntryRecord.{EntryRecord}
 use Rattle.trees.specs.declared.records.AttributeRecord.{AttributeRecord}
 use Rattle.trees.specs.Model.{no_unit}
 use Rattle.trees.specs.View.{Sound, kind}
-use Rattle.trees.proofs.Views.{upd, at_set, kept, along, st, un}
+use Rattle.trees.proofs.Views.{upd, at_set, kept, st, un}
 
 -- a front of a list with one element changed
 pub take_set_in : (us : List UnitRecord) (m i : ℕ) (x : UnitRecord) → i < m → m ≤ length us → take m (set us i x) ≡ set (take m us) i x

@@ -1,17 +1,17 @@
 -- The walk of a unit's tree, over the records.
-use Rattle.std.proofs.Common.{◌≡◌, ℕ, zero, suc, ◌+◌, ◌<◌, ◌≤◌, Bool, true, false, cond, not, eqb, ltb, ◌≢◌, ◌⊎◌, List, [], ◌∷◌, ◌++◌, length, get_or, sym, refl, ap, ◌∙◌, subst, inl, inr, arith}
-use Rattle.std.proofs.lemmas.Bool.{cases_lt, eq-eqb, ne_eqb, lt-ltb, le-ltb, cond-true, cond-false, true≢false}
+use Rattle.std.proofs.Common.{◌≡◌, ℕ, zero, suc, ◌<◌, ◌≤◌, Bool, true, false, cond, eqb, ltb, ◌≢◌, List, [], ◌∷◌, length, get_or, sym, refl, ap, ◌∙◌, subst, arith}
+use Rattle.std.proofs.lemmas.Bool.{eq-eqb, ne_eqb, lt-ltb, le-ltb, cond-true, cond-false}
 use Rattle.trees.specs.declared.records.Records.{Records}
 use Rattle.trees.specs.declared.records.EntryRecord.{EntryRecord}
 use Rattle.trees.specs.declared.records.UnitId.{UnitId}
 use Rattle.trees.specs.declared.records.Event.{Event}
 use Rattle.trees.specs.declared.records.Event.TheVariants.{Enter, Leave}
-use Rattle.trees.specs.Lists.{nil, kids, Mem}
+use Rattle.trees.specs.Lists.{nil, kids}
 use Rattle.trees.specs.Model.{knows_unit, no_unit}
 use Rattle.trees.specs.View.{view, Holds, kin, kind}
-use Rattle.trees.specs.Walk.{run, ends, halt, events, entries, Once, rest, Ending, steps, tree_events, unit_events, entered, root_record}
+use Rattle.trees.specs.Walk.{ends, halt, Once, rest, Ending, steps, tree_events, unit_events, entered, root_record}
 use Rattle.trees.proofs.Segs.{Seg}
-use Rattle.trees.proofs.Families.{good_seg, chain_nil}
+use Rattle.trees.proofs.Families.{good_seg}
 use Rattle.trees.proofs.Views.{nx, fs, pa, st, kin_of}
 use Rattle.trees.proofs.Trees.{small, parentless}
 use Rattle.trees.proofs.Edits.{known_unit}

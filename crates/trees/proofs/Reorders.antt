@@ -1,11 +1,10 @@
 -- A child moves to the end of its parent's list.
-use Rattle.std.proofs.Common.{◌≡◌, ℕ, zero, suc, ◌+◌, ◌-◌, ◌<◌, ◌≤◌, Bool, true, false, cond, not, eqb, ltb, ◌≢◌, ◌⊎◌, List, [], ◌∷◌, ◌++◌, length, get_or, set, sym, refl, ap, ◌∙◌, subst, inl, inr, arith, length-set}
+use Rattle.std.proofs.Common.{◌≡◌, ℕ, ◌<◌, ◌≤◌, Bool, true, false, cond, not, eqb, ltb, ◌≢◌, ◌⊎◌, List, [], ◌∷◌, ◌++◌, length, get_or, sym, refl, ap, ◌∙◌, subst, inl, inr, arith, length-set}
 use Rattle.std.proofs.lemmas.Bool.{cases_eq, eq-eqb, ne_eqb, lt-ltb, cond-true, cond-false}
 use Rattle.trees.specs.declared.records.UnitRecord.{UnitRecord}
 use Rattle.trees.specs.declared.records.EntryRecord.{EntryRecord}
 use Rattle.trees.specs.declared.records.AttributeRecord.{AttributeRecord}
 use Rattle.trees.specs.declared.records.State.{State}
-use Rattle.trees.specs.declared.records.Note.{Note}
 use Rattle.trees.specs.Lists.{nil, Links, kids, Mem, has, last_or, without, Before}
 use Rattle.trees.specs.Model.{Entry, no_entry, no_unit, change, with_children}
 use Rattle.trees.specs.Stores.{modify, with_last, with_next}

@@ -1,9 +1,9 @@
 -- The search for a record along a list, with the record before it.
-use Rattle.std.proofs.Common.{◌≡◌, ℕ, zero, suc, ◌+◌, ◌-◌, ◌<◌, ◌≤◌, Bool, true, false, cond, eqb, ◌≢◌, ◌⊎◌, List, [], ◌∷◌, ◌++◌, map, length, sym, refl, ap, ◌∙◌, subst, inl, inr, arith}
+use Rattle.std.proofs.Common.{◌≡◌, ℕ, ◌<◌, false, eqb, ◌≢◌, List, [], ◌∷◌, ◌++◌, map, length, sym, refl, ap, ◌∙◌, inl, inr, arith}
 use Rattle.trees.specs.declared.records.Attribute.{Attribute}
 use Rattle.trees.specs.Model.{named}
 use Rattle.std.proofs.lemmas.Bool.{ne_eqb, or_from, or_parts}
-use Rattle.trees.specs.Lists.{nil, chain, stop, Mem, has, Links, kids, Ends, Owned, Before}
+use Rattle.trees.specs.Lists.{nil, chain, stop, Mem, has, Links, kids, Before}
 use Rattle.trees.proofs.Families.{Good, chain_step, chain_nil}
 
 -- the search stands at `cur`, with `prev` just before: `ahead` is what is left, and `behind` came before

@@ -1,8 +1,6 @@
 -- The steps on entries, over the records: the invariant stays, and the view makes the model's step.
-use Rattle.std.proofs.Common.{◌≡◌, ℕ, zero, suc, ◌+◌, ◌-◌, ◌<◌, ◌≤◌, Bool, true, false, cond, not, eqb, ltb, ◌≢◌, ◌⊎◌, List, [], ◌∷◌, ◌++◌, map, length, get_or, set, sym, refl, ap, ◌∙◌, subst, inl, inr, arith, length-set}
-use mathlib.Core.Path.{fun_ext}
-use Rattle.std.proofs.lemmas.Bool.{cases_lt, cases_eq, eqb-true, eqb-false, eq-eqb, ne_eqb, lt-ltb, le-ltb, cond-true, cond-false, true≢false, not_from_true, not_from_false}
-use Rattle.std.proofs.lemmas.List.{length_push, get_or_push, get_or_append_left}
+use Rattle.std.proofs.Common.{◌≡◌, ℕ, ◌<◌, ◌≤◌, Bool, true, false, cond, not, eqb, ltb, ◌≢◌, ◌⊎◌, List, [], ◌∷◌, ◌++◌, length, get_or, set, sym, refl, ap, ◌∙◌, subst, inl, inr, arith, length-set}
+use Rattle.std.proofs.lemmas.Bool.{cases_lt, cases_eq, eq-eqb, ne_eqb, lt-ltb, le-ltb, cond-true, cond-false, true≢false}
 use Rattle.trees.specs.declared.records.Attribute.{Attribute}
 use Rattle.trees.specs.declared.records.UnitRecord.{UnitRecord}
 use Rattle.trees.specs.declared.records.EntryRecord.{EntryRecord}
@@ -10,12 +8,12 @@ use Rattle.trees.specs.declared.records.AttributeRecord.{AttributeRecord}
 use Rattle.trees.specs.declared.records.State.{State}
 use Rattle.trees.specs.declared.records.Note.{Note}
 use Rattle.trees.specs.declared.records.State.TheVariants.{Root, Waiting, Placed, TakenOut, GivenBack}
-use Rattle.trees.specs.Lists.{nil, Links, kids, Mem, has, last_or, without, Before}
-use Rattle.trees.specs.Model.{Entry, Table, no_entry, no_unit, change, placed, adopt, abandon, left, new_entry}
-use Rattle.trees.specs.Stores.{modify, fresh_record, placed_record, loose_record, with_ends, with_last, with_next, linked_first, linked_after, unlinked_first, unlinked_after, last_without}
+use Rattle.trees.specs.Lists.{nil, Links, kids, Mem, has, last_or}
+use Rattle.trees.specs.Model.{Entry, no_unit, change, placed, adopt}
+use Rattle.trees.specs.Stores.{modify, placed_record, with_ends, with_last, with_next, linked_first, linked_after}
 use Rattle.trees.specs.View.{blank, kin, holdings, attributes_at, entry_from, entry_at, entries_in, kind, Sound}
-use Rattle.trees.proofs.Families.{Good, Appending, append_good, Removing, remove_good, removed, framed, added, dropped, last_left, last_push, last_in, push_mem, mem_left, mem_without, has_mem, mem_has, before_not, chain_nil, once}
-use Rattle.trees.proofs.Views.{along, nx, fs, ls, pa, un, at, st, tg, sb, nt, upd, upd_at, upd_off, upd_same, at_set, field, kept, kin_path, held_path, length_entries, entries_at, entries_are, change_at, length_change, kin_kept, held_kept, one_changed, kin_good, held_good}
+use Rattle.trees.proofs.Families.{Good, Appending, append_good, added, last_push, last_in, push_mem, mem_left, has_mem, mem_has, chain_nil}
+use Rattle.trees.proofs.Views.{along, nx, fs, ls, pa, un, at, st, tg, sb, nt, upd, upd_at, upd_off, field, kept, kin_path, held_path, length_entries, entries_at, entries_are, change_at, length_change, kin_kept, held_kept, one_changed, kin_good, held_good}
 
 -- a record changed: one field's function changes at one place, or not at all
 pub changes : {X : Type 0} (f : EntryRecord → X) (es : List EntryRecord) (i : ℕ) (g : EntryRecord → EntryRecord) → i < length es

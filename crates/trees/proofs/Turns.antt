@@ -1,18 +1,18 @@
 -- The base types move to the front: the children are gone through once, and each of another tag moves to the end.
-use Rattle.std.proofs.Common.{◌≡◌, ℕ, zero, suc, ◌+◌, ◌-◌, ◌<◌, ◌≤◌, Bool, true, false, cond, not, eqb, ltb, ◌≢◌, ◌⊎◌, List, [], ◌∷◌, ◌++◌, length, get_or, set, filter, sym, refl, ap, ◌∙◌, subst, inl, inr, append_assoc, append-nil, arith, length-set}
+use Rattle.std.proofs.Common.{◌≡◌, ℕ, ◌<◌, ◌≤◌, Bool, true, false, cond, not, eqb, ◌≢◌, ◌⊎◌, List, [], ◌∷◌, ◌++◌, length, set, filter, sym, refl, ap, ◌∙◌, subst, inl, inr, append_assoc, append-nil, arith}
 use Rattle.std.proofs.lemmas.List.Elements.{filter-append}
 use Rattle.std.proofs.lemmas.List.{get_or-set_same, set-set, set-get_or}
-use Rattle.std.proofs.lemmas.Bool.{cases_eq, cases_Bool, eq-eqb, ne_eqb, lt-ltb, cond-true, cond-false}
+use Rattle.std.proofs.lemmas.Bool.{cases_eq, cases_Bool, lt-ltb, cond-true, cond-false}
 use Rattle.trees.specs.declared.records.Records.{Records}
 use Rattle.trees.specs.declared.records.UnitId.{UnitId}
 use Rattle.trees.specs.declared.records.UnitRecord.{UnitRecord}
-use Rattle.trees.specs.Lists.{nil, chain, stop, Links, kids, Mem, has, last_or, without, Before}
+use Rattle.trees.specs.Lists.{nil, chain, stop, Links, kids, Mem, last_or, without, Before}
 use Rattle.trees.specs.Model.{Entry, Table, no_entry, entry_of, unit_of, knows_unit, change, with_entries, with_children}
 use Rattle.trees.specs.History.{History, Stands, Listed}
 use Rattle.trees.specs.Growth.{reorders, Deed.bases_moved}
 use Rattle.trees.specs.Moves.{moved_last, settled}
 use Rattle.trees.specs.Reorder.{is_base, bases_first, recast, reordered_if}
-use Rattle.trees.specs.View.{view, Holds, blank, kin}
+use Rattle.trees.specs.View.{view, Holds, kin}
 use Rattle.trees.proofs.Segs.{Seg, last_mem, without_here, without_past}
 use Rattle.trees.proofs.Families.{Good, good_seg, once, last_push, chain_step, chain_nil}
 use Rattle.trees.proofs.Views.{nx, fs, ls, change_at, length_change, kin_of}

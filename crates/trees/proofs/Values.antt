@@ -1,16 +1,15 @@
 -- The calls on attributes: what a search tells of the model, and which checks pass.
-use Rattle.std.proofs.Common.{◌≡◌, ℕ, ◌+◌, ◌-◌, ◌<◌, ◌≤◌, Bool, true, false, cond, not, ◌&&◌, eqb, ◌≢◌, List, [], ◌∷◌, ◌++◌, map, length, get_or, set, Some, None, sym, refl, ap, ◌∙◌, subst, arith}
+use Rattle.std.proofs.Common.{◌≡◌, ℕ, ◌<◌, true, false, not, ◌&&◌, eqb, List, [], ◌∷◌, map, length, set, Some, None, ap, ◌∙◌}
 use Rattle.std.proofs.lemmas.List.{set-get_or}
-use Rattle.std.proofs.lemmas.Bool.{eqb-true, eq-eqb, eqb-false, ne_eqb, cond-true, cond-false}
 use Rattle.trees.specs.declared.records.Attribute.{Attribute}
 use Rattle.trees.specs.declared.records.AttributeValue.{AttributeValue}
 use Rattle.trees.specs.declared.records.Records.{Records}
 use Rattle.trees.specs.declared.records.EditFault.TheVariants.{SiblingName, SpanOutOfBounds, TableFull}
-use Rattle.trees.specs.Model.{Entry, Table, Check, entry_of, no_entry, amend, amended, change, named, put, unname, fits, first_fault}
+use Rattle.trees.specs.Model.{Entry, Table, Check, entry_of, no_entry, amended, named, fits, first_fault}
 use Rattle.trees.specs.View.{view, Holds}
-use Rattle.trees.specs.Attributes.{attribute_in, records_of, lists, FoundAt, NotFound}
+use Rattle.trees.specs.Attributes.{attribute_in, records_of, FoundAt, NotFound}
 use Rattle.trees.proofs.Edits.{view_entry}
-use Rattle.trees.proofs.Holdings.{named_split, put_new, unname_none}
+use Rattle.trees.proofs.Holdings.{named_split}
 
 -- the attributes of an entry, from the records
 pub view_attributes : (r : Records) (e : ℕ) → e < r.entry_count → (entry_of (view r) e).attributes ≡ map (attribute_in r.attributes.now) (records_of r e)

@@ -1,10 +1,9 @@
 -- Records written, and what the table's view and invariant become.
-use Rattle.std.proofs.Common.{◌≡◌, ℕ, zero, suc, ◌+◌, ◌-◌, ◌<◌, ◌≤◌, Bool, true, false, cond, not, eqb, ltb, ◌≢◌, ◌⊎◌, List, [], ◌∷◌, ◌++◌, map, length, get_or, set, sym, refl, ap, ◌∙◌, subst, inl, inr, arith, length-set}
+use Rattle.std.proofs.Common.{◌≡◌, ℕ, ◌<◌, Bool, true, false, cond, eqb, ltb, ◌≢◌, List, length, get_or, set, sym, refl, ap, ◌∙◌, inl, inr, arith, length-set}
 use mathlib.Core.Path.{fun_ext}
-use Rattle.std.specs.List.{range_with_len}
 use Rattle.std.proofs.lemmas.List.{get_or-set_same, get_or-set_other}
 use Rattle.std.proofs.lemmas.List.FromFn.{length-map-range_with_len, get_or-map-range_with_len, fill_by_all}
-use Rattle.std.proofs.lemmas.Bool.{cases_lt, cases_eq, eqb-true, eqb-false, eq-eqb, ne_eqb, cond-true, cond-false}
+use Rattle.std.proofs.lemmas.Bool.{cases_eq, eq-eqb, ne_eqb, cond-true, cond-false}
 use Rattle.trees.specs.declared.records.Attribute.{Attribute}
 use Rattle.trees.specs.declared.records.UnitRecord.{UnitRecord}
 use Rattle.trees.specs.declared.records.EntryRecord.{EntryRecord}
@@ -12,9 +11,9 @@ use Rattle.trees.specs.declared.records.AttributeRecord.{AttributeRecord}
 use Rattle.trees.specs.declared.records.Records.{Records}
 use Rattle.trees.specs.declared.records.State.{State}
 use Rattle.trees.specs.declared.records.Note.{Note}
-use Rattle.trees.specs.Lists.{nil, Links, kids, Mem, has}
-use Rattle.trees.specs.Model.{Entry, Table, no_entry, change}
-use Rattle.trees.specs.View.{blank, no_attribute, kin, holdings, attributes_at, entry_from, entry_at, entries_in, kind, Sound, Holds}
+use Rattle.trees.specs.Lists.{nil, Links, kids}
+use Rattle.trees.specs.Model.{Entry, no_entry, change}
+use Rattle.trees.specs.View.{blank, no_attribute, kin, holdings, attributes_at, entry_from, entry_at, entries_in, Sound, Holds}
 use Rattle.trees.proofs.Families.{Good}
 
 -- f with v at i

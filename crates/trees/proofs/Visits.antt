@@ -1,16 +1,16 @@
 -- Each entry of a tree is entered once.
-use Rattle.std.proofs.Common.{◌≡◌, ℕ, zero, suc, ◌+◌, ◌-◌, ◌<◌, ◌≤◌, Bool, true, false, cond, ◌≢◌, ◌⊎◌, List, [], ◌∷◌, ◌++◌, length, get_or, sym, refl, ap, ◌∙◌, subst, inl, inr, arith}
+use Rattle.std.proofs.Common.{◌≡◌, ℕ, zero, suc, ◌+◌, ◌<◌, ◌≤◌, ◌⊎◌, List, [], ◌∷◌, ◌++◌, length, get_or, sym, refl, ap, ◌∙◌, subst, inl, inr, arith}
 use Rattle.std.specs.List.{flat_map}
 use Rattle.std.proofs.lemmas.List.{append-nil, append_assoc, append_cancel_right, same_from_push, length-append}
-use Rattle.trees.specs.Lists.{nil, chain, stop, Mem}
+use Rattle.trees.specs.Lists.{nil, Mem}
 use Rattle.trees.specs.declared.records.Event.{Event}
 use Rattle.trees.specs.declared.records.Event.TheVariants.{Enter, Leave}
 use Rattle.trees.specs.Walk.{events, closing, entries, entered, Once}
 use Rattle.trees.proofs.Pigeon.{pigeon, Apart}
-use Rattle.trees.proofs.Segs.{Seg, Below, short, fresh, seg_chain}
+use Rattle.trees.proofs.Segs.{Seg, Below, fresh, seg_chain}
 use Rattle.trees.proofs.Families.{mem_left}
 use Rattle.trees.proofs.Seeks.{mem_right}
-use Rattle.trees.proofs.Machine.{Deep, Fit, deep_root}
+use Rattle.trees.proofs.Machine.{Deep, Fit}
 
 joined_same : {X : Type 0} (g h : ℕ → List X) (xs : List ℕ) → ((c : ℕ) → Mem c xs → g c ≡ h c) → flat_map g xs ≡ flat_map h xs
 joined_same g h [] f = refl

@@ -1,5 +1,5 @@
 -- Cursors along a list.
-use Rattle.std.proofs.Common.{◌≡◌, ℕ, ◌<◌, ◌≤◌, Bool, true, false, cond, ltb, ◌≢◌, ◌⊎◌, List, [], ◌∷◌, map, length, get_or, sym, refl, ap, ◌∙◌, subst, inl, inr, arith}
+use Rattle.std.proofs.Common.{◌≡◌, ℕ, ◌<◌, Bool, true, false, ltb, ◌≢◌, [], ◌∷◌, map, length, get_or, sym, refl, ap, ◌∙◌, subst, inl, inr, arith}
 use Rattle.std.proofs.lemmas.Bool.{lt-ltb, cond-true}
 use Rattle.trees.specs.Lists.{nil, chain, stop, Mem}
 use Rattle.trees.specs.View.{view, Holds, kin, no_attribute}
@@ -10,7 +10,7 @@ use Rattle.trees.specs.declared.records.Records.{Records}
 use Rattle.trees.specs.declared.records.UnitEntryId.{UnitEntryId}
 use Rattle.trees.proofs.Families.{chain_step, chain_nil}
 use Rattle.trees.proofs.Views.{fs, at}
-use Rattle.trees.proofs.Edits.{Known, known, view_entry}
+use Rattle.trees.proofs.Edits.{known, view_entry}
 use Rattle.trees.proofs.Empty.{stop_nil}
 
 -- a cursor at a that is not at the end: a comes, lies below the bound, and the rest is as well made

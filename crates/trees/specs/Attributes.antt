@@ -1,5 +1,5 @@
 -- A search for a name among the attributes of an entry, and what the private functions on attributes write.
-use Rattle.std.specs.Prelude.{◌≡◌, ℕ, Bool, true, false, ◌≢◌, List, [], ◌∷◌, ◌++◌, map, length, slice_index_or}
+use Rattle.std.specs.Prelude.{◌≡◌, ℕ, false, ◌≢◌, List, ◌∷◌, ◌++◌, map, length, slice_index_or}
 use Rattle.trees.specs.declared.records.Attribute.{Attribute}
 use Rattle.trees.specs.declared.records.AttributeRecord.{AttributeRecord}
 use Rattle.trees.specs.declared.records.Records.{Records}

@@ -1,7 +1,7 @@
-use Rattle.std.proofs.Common.{◌≡◌, ℕ, ◌+◌, ◌-◌, ◌<◌, ◌≤◌, min, Bool, true, false, cond, List, [], ◌∷◌, ◌++◌, length, take, drop, Ok, Err, sym, refl, ap, ◌∙◌, append_assoc, arith, length-append, length-drop, length-take}
+use Rattle.std.proofs.Common.{◌≡◌, ℕ, ◌+◌, ◌-◌, ◌<◌, ◌≤◌, Bool, List, [], ◌++◌, length, take, drop, Ok, Err, sym, ap, ◌∙◌, append_assoc, arith, length-append, length-drop, length-take}
 use Rattle.std.proofs.lemmas.List.{take_at, ext_get_or, places, length-take-le}
 use Rattle.sections.specs.declared.fault.Fault.TheVariants.{SectionFull, OffsetOutOfBounds, LengthOutOfBounds}
-use Rattle.sections.specs.Section.{Section, append, place, grown, mended, over, section_limit}
+use Rattle.sections.specs.Section.{Section, over}
 use Rattle.writers.specs.Memory.{section_room, front, Appended, Placed}
 use Rattle.sections.proofs.Acts.{append_fits, append_full, place_fits, place_past, place_over, length_over}
 

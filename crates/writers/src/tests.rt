@@ -48,7 +48,7 @@ fn three_layers(rt: HostRuntime) {
 fn plain(rt: HostRuntime) {
     let mut w = Quota::new(PageWriter::new(BigEndian), 11);
     assert!(rt; unit(&mut w).is_ok());
-    assert_eq!(rt; w.bytes(), &[0, 0, 0, 7, 0, 4, 0, 0, 0, 0x21, 8]);
+    assert_eq!(rt; w.bytes(), [0, 0, 0, 7, 0, 4, 0, 0, 0, 0x21, 8].as_slice());
     assert!(rt;
         w.write_address(
             Address::Symbol {

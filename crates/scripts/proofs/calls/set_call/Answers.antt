@@ -1,4 +1,4 @@
-use Rattle.std.proofs.Common.{drop, vec_items, sym, refl, ap, ◌∙◌, subst}
+use Rattle.std.proofs.Common.{vec_items, sym, refl, ap, ◌∙◌, subst}
 use Rattle.texts.specs.Texts.{number_of}
 use Rattle.scripts.specs.Kinds.{word_of}
 use Rattle.scripts.specs.Values.{ValueFrom}

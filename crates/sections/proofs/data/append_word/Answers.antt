@@ -1,4 +1,4 @@
-use Rattle.std.proofs.Common.{sym, arith, rules}
+use Rattle.std.proofs.Common.{sym, rules}
 use Rattle.std.proofs.lemmas.Result.{err_from_is_err_and}
 use Rattle.sections.proofs.Words.{udata_declined, udata_ran}
 use Rattle.sections.proofs.data.append_word.Goals as goal

@@ -1,4 +1,4 @@
-use Rattle.std.proofs.Common.{◌≡◌, ◌+◌, length, take, sym, ap, subst, arith}
+use Rattle.std.proofs.Common.{◌≡◌, take, ap, arith}
 use Rattle.std.proofs.lemmas.List.{take_all}
 use Rattle.trees.specs.History.{times}
 use Rattle.sessions.proofs.Times.{times_same, times_other}

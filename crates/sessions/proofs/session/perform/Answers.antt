@@ -1,4 +1,4 @@
-use Rattle.std.proofs.Common.{vec_items, ◌∙◌, subst}
+use Rattle.std.proofs.Common.{vec_items, subst}
 use Rattle.trees.specs.View.{view}
 use Rattle.sessions.specs.Sessions.{OrderOf}
 use Rattle.sessions.proofs.Sessions.{performed}

@@ -1,6 +1,6 @@
 use Rattle.std.proofs.Common.{sym, ap, ◌∙◌}
 use Rattle.std.proofs.lemmas.Result.{err_from_is_err_and}
-use Rattle.sections.specs.Section.{offset, word_checks, offset_body, verdict, capped}
+use Rattle.sections.specs.Section.{offset, word_checks, offset_body, capped}
 use Rattle.sections.proofs.Acts.{refused, out}
 use Rattle.layers.proofs.Caps.{word_full, word_kept, offset_word}
 use Rattle.layers.proofs.quota.Quota.cap_offset.Goals as goal

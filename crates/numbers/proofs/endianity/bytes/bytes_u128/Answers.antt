@@ -1,5 +1,5 @@
 use Rattle.std.proofs.Common.{true, false, sym, ◌∙◌}
-use Rattle.numbers.specs.OrdersLemmas.{bytes_halves, writes_halves}
+use Rattle.numbers.proofs.Orders.{bytes_halves, writes_halves}
 use Rattle.numbers.proofs.endianity.bytes.bytes_u128.Goals as goal
 
 pub returns-then-big : goal.returns-then-big

@@ -1,5 +1,5 @@
 use Rattle.std.proofs.Common.{sym}
-use Rattle.numbers.specs.OrdersLemmas.{writes_big, writes_little}
+use Rattle.numbers.proofs.Orders.{writes_big, writes_little}
 use Rattle.numbers.proofs.endianity.bytes.bytes_u32.Goals as goal
 
 pub returns-then-big : goal.returns-then-big

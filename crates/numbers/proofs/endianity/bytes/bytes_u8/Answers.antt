@@ -1,5 +1,5 @@
 use Rattle.std.proofs.Common.{sym, ◌∙◌, arith}
-use Rattle.numbers.specs.OrdersLemmas.{bytes_of_one}
+use Rattle.numbers.proofs.Orders.{bytes_of_one}
 use Rattle.numbers.proofs.endianity.bytes.bytes_u8.Goals as goal
 
 pub returns-then-big : goal.returns-then-big

@@ -1,5 +1,5 @@
 use Rattle.std.proofs.Common.{sym, arith}
-use Rattle.numbers.specs.OrdersLemmas.{reads_big, reads_little}
+use Rattle.numbers.proofs.Orders.{reads_big, reads_little}
 use Rattle.numbers.proofs.endianity.bytes.value_u64.Goals as goal
 
 pub returns-then-big : goal.returns-then-big

@@ -1,4 +1,4 @@
-use Rattle.std.proofs.Common.{◌≡◌, ℕ, map, length, get_or, refl, ap}
+use Rattle.std.proofs.Common.{map, length, get_or, refl, ap}
 use Rattle.trees.specs.Lists.{nil}
 use Rattle.trees.specs.View.{no_attribute}
 use Rattle.trees.specs.Attributes.{attribute_in}

@@ -1,4 +1,4 @@
-use Rattle.std.proofs.Common.{◌≡◌, length, get_or, refl}
+use Rattle.std.proofs.Common.{length, refl}
 use Rattle.trees.specs.Lists.{nil}
 use Rattle.trees.proofs.Families.{chain_nil}
 use Rattle.trees.proofs.Views.{nx}

@@ -1,6 +1,6 @@
-use Rattle.std.proofs.Common.{◌≡◌, ℕ, ◌<◌, ◌≤◌, length, sym, refl, ap, ◌∙◌, arith}
+use Rattle.std.proofs.Common.{arith}
 use Rattle.trees.specs.Lists.{nil}
-use Rattle.trees.proofs.Turns.{Turn, no_turn, first_turn, turn_parent, turn_before, turn_in, turn_ends, turn_less, turn_next}
+use Rattle.trees.proofs.Turns.{no_turn, first_turn, turn_parent, turn_before, turn_in, turn_ends, turn_less, turn_next}
 use Rattle.trees.proofs.records.Records.bases_first.Goals as goal
 
 pub returns-then-cur : goal.returns-then-cur

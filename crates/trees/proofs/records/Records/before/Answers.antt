@@ -1,7 +1,7 @@
-use Rattle.std.proofs.Common.{◌≡◌, ℕ, ◌<◌, false, List, [], ◌∷◌, ◌++◌, length, get_or, sym, refl, ap, ◌∙◌, subst, arith}
+use Rattle.std.proofs.Common.{◌≡◌, ℕ, [], ◌∷◌, ◌++◌, length, get_or, refl, ap, ◌∙◌, subst, arith}
 use Rattle.std.proofs.lemmas.List.{append-nil}
 use Rattle.std.proofs.lemmas.Bool.{lt-ltb, cond-true}
-use Rattle.trees.specs.Lists.{nil, has, Before, Links}
+use Rattle.trees.specs.Lists.{nil, has, Before}
 use Rattle.trees.specs.View.{kin, blank}
 use Rattle.trees.proofs.Views.{kin_of}
 use Rattle.trees.proofs.Seeks.{Seeking, seek_start, seek_end, seek_found, seek_in, seek_step, not_pushed}

@@ -1,8 +1,6 @@
-use Rattle.std.proofs.Common.{◌≡◌, ℕ, ◌+◌, ◌<◌, ◌≤◌, List, length, get_or, sym, refl, ap, ◌∙◌, arith}
-use Rattle.trees.specs.Attributes.{lists, records_of}
-use Rattle.trees.specs.Cursors.{records_from}
+use Rattle.std.proofs.Common.{length, ap, arith}
+use Rattle.trees.specs.Attributes.{lists}
 use Rattle.trees.specs.Lists.{nil}
-use Rattle.trees.specs.View.{no_attribute}
 use Rattle.trees.proofs.Families.{chain_nil, chain_short}
 use Rattle.trees.proofs.Holdings.{first_free}
 use Rattle.trees.proofs.Walks.{from}

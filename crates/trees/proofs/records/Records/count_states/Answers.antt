@@ -1,9 +1,7 @@
-use Rattle.std.proofs.Common.{◌≡◌, ℕ, ◌+◌, ◌<◌, ◌≤◌, length, get_or, take, sym, refl, ap, ◌∙◌, subst, arith}
+use Rattle.std.proofs.Common.{take, sym, ap, ◌∙◌, subst, arith}
 use Rattle.std.proofs.lemmas.List.{take_all}
 use Rattle.trees.specs.declared.records.Counts.{Counts}
-use Rattle.trees.specs.declared.records.State.{State}
 use Rattle.trees.specs.Counts.{counts_in, tallied, Countable}
-use Rattle.trees.specs.Model.{no_entry}
 use Rattle.trees.specs.View.{view}
 use Rattle.trees.proofs.Edits.{view_count, view_state}
 use Rattle.trees.proofs.Views.{st}

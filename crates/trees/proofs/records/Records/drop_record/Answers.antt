@@ -1,13 +1,8 @@
-use Rattle.std.proofs.Common.{◌≡◌, ℕ, ◌+◌, ◌-◌, ◌<◌, ◌≤◌, Bool, true, false, cond, not, eqb, ltb, ◌≢◌, List, [], ◌∷◌, ◌++◌, map, length, get_or, set, sym, refl, ap, ◌∙◌, subst, arith, length-set}
-use Rattle.trees.specs.declared.records.Attribute.{Attribute}
-use Rattle.trees.specs.declared.records.EntryRecord.{EntryRecord}
+use Rattle.std.proofs.Common.{length, get_or, refl, arith, length-set}
 use Rattle.trees.specs.declared.records.AttributeRecord.{AttributeRecord}
-use Rattle.trees.specs.Lists.{nil, Links, kids, last_or, Mem, chain, Before}
-use Rattle.trees.specs.Attributes.{lists, records_of, attribute_in, FoundAt, NotFound, Sought, Loose}
-use Rattle.trees.specs.View.{view, blank, no_attribute, holdings}
+use Rattle.trees.specs.Lists.{nil}
+use Rattle.trees.specs.View.{no_attribute}
 use Rattle.trees.proofs.Tables.{same_table}
-use Rattle.trees.proofs.Views.{upd, upd_at, upd_off, field, kept, at, along}
-use Rattle.trees.proofs.Trees.{at_point}
 use Rattle.trees.proofs.Holdings.{drop_sound, drop_view, drop_left}
 use Rattle.trees.proofs.records.Records.drop_record.Goals as goal
 

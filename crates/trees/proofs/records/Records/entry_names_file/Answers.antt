@@ -1,9 +1,8 @@
-use Rattle.std.proofs.Common.{◌≡◌, ℕ, ◌<◌, cond, ltb, List, map, length, get_or, sym, refl, ap, ◌∙◌, arith}
+use Rattle.std.proofs.Common.{ℕ, List, map, length, sym, ap, ◌∙◌, arith}
 use Rattle.std.proofs.lemmas.Bool.{lt-ltb, cond-true}
 use Rattle.trees.specs.Attributes.{lists, attribute_in}
 use Rattle.trees.specs.Counts.{any_file}
 use Rattle.trees.specs.Lists.{nil}
-use Rattle.trees.specs.View.{no_attribute}
 use Rattle.trees.proofs.Families.{chain_nil}
 use Rattle.trees.proofs.Values.{view_attributes}
 use Rattle.trees.proofs.Walks.{from}

@@ -1,10 +1,10 @@
-use Rattle.std.proofs.Common.{◌≡◌, ℕ, ◌<◌, List, [], ◌∷◌, ◌++◌, map, length, get_or, sym, refl, ap, ◌∙◌, subst, arith}
+use Rattle.std.proofs.Common.{◌≡◌, ℕ, List, [], ◌∷◌, ◌++◌, map, length, get_or, sym, refl, ap, ◌∙◌, subst, arith}
 use Rattle.std.proofs.lemmas.List.{append-nil}
 use Rattle.std.proofs.lemmas.Bool.{lt-ltb, cond-true}
 use Rattle.trees.specs.Lists.{nil, last_or, chain}
 use Rattle.trees.specs.Model.{named}
 use Rattle.trees.specs.View.{blank}
-use Rattle.trees.specs.Attributes.{lists, attribute_in, Sought}
+use Rattle.trees.specs.Attributes.{lists, attribute_in}
 use Rattle.trees.proofs.Families.{last_push}
 use Rattle.trees.proofs.Views.{held_of}
 use Rattle.trees.proofs.Seeks.{Seeking, seek_start, seek_end, seek_found, seek_in, seek_step, seek_split, not_named}

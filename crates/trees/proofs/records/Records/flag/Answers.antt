@@ -1,4 +1,4 @@
-use Rattle.std.proofs.Common.{◌≡◌, ℕ, ◌+◌, ◌-◌, List, length, refl, ap}
+use Rattle.std.proofs.Common.{ℕ, ◌+◌, ◌-◌, List, length, refl, ap}
 use Rattle.trees.specs.Model.{flagged}
 use Rattle.trees.specs.Stores.{with_sibling}
 use Rattle.trees.proofs.Trees.{touched}

@@ -1,6 +1,5 @@
-use Rattle.std.proofs.Common.{◌≡◌, ℕ, ◌+◌, ◌-◌, ◌<◌, List, [], ◌∷◌, ◌++◌, length, set, sym, refl, ap, ◌∙◌, subst, arith}
+use Rattle.std.proofs.Common.{◌+◌, ◌-◌, length, set, sym, refl, ap, ◌∙◌, subst, arith}
 use Rattle.trees.specs.Lists.{nil, Links, kids}
-use Rattle.trees.specs.Model.{new_entry}
 use Rattle.trees.specs.Stores.{fresh_record}
 use Rattle.trees.specs.View.{Sound, entries_in, holdings}
 use Rattle.trees.specs.declared.records.State.TheVariants.{Waiting}

@@ -1,7 +1,5 @@
-use Rattle.std.proofs.Common.{◌≡◌, ℕ, ◌+◌, ◌-◌, ◌<◌, ◌≤◌, Bool, true, false, cond, not, eqb, ltb, ◌≢◌, List, [], ◌∷◌, ◌++◌, map, length, get_or, set, sym, refl, ap, ◌∙◌, subst, inl, inr, arith, length-set}
+use Rattle.std.proofs.Common.{◌≡◌, ℕ, ◌+◌, ◌-◌, not, eqb, ltb, length, sym, ap, ◌∙◌, inl, inr, arith}
 use Rattle.trees.specs.Lists.{nil, kids}
-use Rattle.trees.specs.Attributes.{FoundAt}
-use Rattle.trees.proofs.Tables.{same_table}
 use Rattle.trees.specs.View.{holdings}
 use Rattle.std.proofs.lemmas.Bool.{cases_lt, ne_eqb, eq-eqb, lt-ltb, le-ltb}
 use Rattle.trees.proofs.Holdings.{free_list, none_free}

@@ -1,4 +1,4 @@
-use Rattle.std.proofs.Common.{◌≡◌, ℕ, ◌+◌, ◌-◌, List, length, refl, ap}
+use Rattle.std.proofs.Common.{ℕ, ◌+◌, ◌-◌, List, length, refl, ap}
 use Rattle.trees.specs.Model.{noted}
 use Rattle.trees.specs.Stores.{jotted}
 use Rattle.trees.proofs.Trees.{touched}

@@ -1,4 +1,4 @@
-use Rattle.std.proofs.Common.{◌≡◌, ℕ, ◌-◌, ◌<◌, true, List, length, get_or, take, set, sym, refl, ap, ◌∙◌, subst, arith, length-set}
+use Rattle.std.proofs.Common.{ℕ, ◌-◌, ◌<◌, List, length, get_or, take, set, sym, refl, ap, ◌∙◌, subst, arith, length-set}
 use Rattle.trees.specs.declared.records.UnitRecord.{UnitRecord}
 use Rattle.trees.specs.Model.{no_unit, as_written}
 use Rattle.trees.specs.View.{Sound}

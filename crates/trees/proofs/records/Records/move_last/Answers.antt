@@ -1,4 +1,4 @@
-use Rattle.std.proofs.Common.{◌≡◌, ℕ, ◌+◌, ◌-◌, ◌<◌, ◌≤◌, List, length, sym, refl, ap, ◌∙◌, arith}
+use Rattle.std.proofs.Common.{◌≡◌, ℕ, ◌+◌, ◌-◌, List, length, sym, ap, ◌∙◌, arith}
 use Rattle.trees.specs.Lists.{nil}
 use Rattle.trees.specs.declared.records.EntryRecord.{EntryRecord}
 use Rattle.trees.specs.Model.{Entry}

@@ -1,14 +1,13 @@
-use Rattle.std.proofs.Common.{◌≡◌, ℕ, ◌+◌, ◌-◌, ◌<◌, ◌≤◌, false, List, [], ◌∷◌, ◌++◌, length, get_or, take, set, sym, refl, ap, ◌∙◌, subst, arith, length-set}
+use Rattle.std.proofs.Common.{◌≡◌, ℕ, ◌+◌, ◌-◌, false, List, [], ◌∷◌, ◌++◌, length, get_or, take, set, sym, refl, ap, ◌∙◌, subst, arith, length-set}
 use Rattle.std.proofs.lemmas.List.{get_or-set_same, get_or-set_other, take_more_set}
 use Rattle.trees.specs.Lists.{nil, Links, kids}
-use Rattle.trees.specs.Model.{new_entry, no_unit, Entry}
+use Rattle.trees.specs.Model.{new_entry, no_unit}
 use Rattle.trees.specs.Stores.{fresh_record}
 use Rattle.trees.specs.View.{Sound, entries_in, holdings}
 use Rattle.trees.specs.declared.records.State.TheVariants.{Root}
 use Rattle.trees.specs.declared.records.EntryRecord.{EntryRecord}
 use Rattle.trees.specs.declared.records.UnitRecord.{UnitRecord}
 use Rattle.trees.proofs.Fresh.{Homes, held, fresh_sound, fresh_view, fresh_left}
-use Rattle.trees.proofs.Views.{length_entries}
 use Rattle.trees.proofs.Edits.{view_count, view_units}
 use Rattle.trees.proofs.Tables.{same_all}
 use Rattle.trees.proofs.records.Records.open_unit.Goals as goal

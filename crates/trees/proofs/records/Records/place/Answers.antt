@@ -1,4 +1,4 @@
-use Rattle.std.proofs.Common.{◌≡◌, ℕ, ◌+◌, ◌-◌, ◌<◌, List, length, refl, ap, arith}
+use Rattle.std.proofs.Common.{ℕ, ◌+◌, ◌-◌, List, length, ap, arith}
 use Rattle.trees.specs.Lists.{nil}
 use Rattle.trees.proofs.Trees.{last_placed, placed_first, placed_after}
 use Rattle.trees.proofs.Tables.{same_table}

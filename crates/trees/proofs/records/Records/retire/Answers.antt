@@ -1,4 +1,4 @@
-use Rattle.std.proofs.Common.{◌≡◌, ℕ, ◌+◌, ◌-◌, eqb, List, length, sym, refl, ap, arith}
+use Rattle.std.proofs.Common.{ℕ, ◌+◌, ◌-◌, eqb, List, length, sym, refl, ap, arith}
 use Rattle.trees.specs.declared.records.State.{State}
 use Rattle.trees.specs.declared.records.State.TheVariants.{GivenBack}
 use Rattle.trees.specs.Model.{left}

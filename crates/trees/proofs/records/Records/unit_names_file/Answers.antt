@@ -1,8 +1,8 @@
-use Rattle.std.proofs.Common.{◌≡◌, ℕ, ◌+◌, ◌<◌, ◌≤◌, Bool, true, false, ◌&&◌, eqb, length, get_or, drop, sym, refl, ap, ◌∙◌, arith}
+use Rattle.std.proofs.Common.{◌≡◌, ◌<◌, eqb, length, sym, ap, ◌∙◌, arith}
 use Rattle.std.proofs.lemmas.List.{drop_all}
 use Rattle.std.proofs.lemmas.Bool.{eq-eqb, ne_eqb, and_from, and_left, and_right}
-use Rattle.trees.specs.Counts.{any_file, file_in}
-use Rattle.trees.specs.Model.{Entry, no_entry, entry_of}
+use Rattle.trees.specs.Counts.{file_in}
+use Rattle.trees.specs.Model.{Entry, entry_of}
 use Rattle.trees.specs.View.{view}
 use Rattle.trees.proofs.Edits.{view_count, view_entry}
 use Rattle.trees.proofs.Counting.{unit_file_here, unit_file_later}

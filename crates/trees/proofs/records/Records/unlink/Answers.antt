@@ -1,6 +1,5 @@
-use Rattle.std.proofs.Common.{◌≡◌, ℕ, ◌+◌, ◌-◌, ◌<◌, ◌≤◌, Bool, true, false, cond, not, eqb, ltb, ◌≢◌, List, [], ◌∷◌, ◌++◌, map, length, get_or, set, sym, refl, ap, ◌∙◌, subst, arith, length-set}
-use Rattle.trees.specs.Lists.{nil, kids}
-use Rattle.trees.specs.Attributes.{FoundAt}
+use Rattle.std.proofs.Common.{ℕ, ◌-◌, length, refl, ap, arith}
+use Rattle.trees.specs.Lists.{nil}
 use Rattle.trees.proofs.Tables.{same_table}
 use Rattle.trees.proofs.Joins.{unlink_first, unlink_after, prev_in_use}
 use Rattle.trees.proofs.records.Records.unlink.Goals as goal

@@ -1,6 +1,3 @@
-use Rattle.std.proofs.Common.{◌≡◌, ℕ, ◌+◌, ◌-◌, Bool, true, false, cond, not, ◌&&◌, eqb, List, [], ◌∷◌, refl}
-use Rattle.trees.specs.declared.records.Attribute.{Attribute}
-use Rattle.trees.specs.Model.{Table, knows, entry_of, named, put, unname, amend, amended, flagged, with_entries, change}
 use Rattle.trees.specs.Growth.{Deed.reserved_added}
 use Rattle.trees.specs.View.{view}
 use Rattle.trees.proofs.Edits.{holds}

@@ -1,4 +1,3 @@
-use Rattle.std.proofs.Common.{◌≡◌, refl}
 use Rattle.trees.proofs.Edits.{holds}
 use Rattle.trees.proofs.Walks.{begun_attributes}
 use Rattle.trees.proofs.table.UnitTable.attrs.Goals as goal

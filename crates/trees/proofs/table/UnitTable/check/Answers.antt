@@ -1,5 +1,4 @@
-use Rattle.std.proofs.Common.{◌≡◌, ap, ◌∙◌}
-use Rattle.trees.specs.Model.{no_unit}
+use Rattle.std.proofs.Common.{ap, ◌∙◌}
 use Rattle.trees.specs.View.{view}
 use Rattle.trees.specs.declared.records.UnitRecord.{UnitRecord}
 use Rattle.trees.proofs.Edits.{view_unit, is_written, is_passed}

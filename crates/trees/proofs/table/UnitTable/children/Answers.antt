@@ -1,4 +1,4 @@
-use Rattle.std.proofs.Common.{◌≡◌, refl}
+use Rattle.std.proofs.Common.{refl}
 use Rattle.trees.proofs.Edits.{holds}
 use Rattle.trees.proofs.Walks.{begun}
 use Rattle.trees.proofs.table.UnitTable.children.Goals as goal

@@ -1,7 +1,6 @@
-use Rattle.std.proofs.Common.{◌≡◌, Some, sym, ap, ◌∙◌, arith}
-use Rattle.std.proofs.lemmas.Bool.{cond-true}
+use Rattle.std.proofs.Common.{sym, ap, ◌∙◌, arith}
 use Rattle.trees.specs.Model.{Entry}
-use Rattle.trees.proofs.Edits.{holds, Known, known, view_entry}
+use Rattle.trees.proofs.Edits.{holds, known, view_entry}
 use Rattle.trees.proofs.table.UnitTable.entry_record.Goals as goal
 
 pub bounds-self-id : goal.bounds-self-id

@@ -1,7 +1,7 @@
-use Rattle.std.proofs.Common.{◌≡◌, sym, ◌∙◌, arith}
-use Rattle.std.proofs.lemmas.Bool.{cond-true, cond-false}
+use Rattle.std.proofs.Common.{sym, ◌∙◌, arith}
+use Rattle.std.proofs.lemmas.Bool.{cond-false}
 use Rattle.trees.specs.Lists.{nil}
-use Rattle.trees.proofs.Edits.{holds, Known, known}
+use Rattle.trees.proofs.Edits.{holds, known}
 use Rattle.trees.proofs.table.UnitTable.first_child.Goals as goal
 
 pub returns-then-not-knows : goal.returns-then-not-knows

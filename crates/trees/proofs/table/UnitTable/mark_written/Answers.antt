@@ -1,8 +1,7 @@
-use Rattle.std.proofs.Common.{◌≡◌, Bool, true, false, cond, sym, refl, ap, ◌∙◌, subst}
+use Rattle.std.proofs.Common.{true, sym, refl, ap, ◌∙◌, subst}
 use Rattle.std.proofs.lemmas.Bool.{cond-true, cond-false, true≢false}
-use Rattle.trees.specs.Model.{Table, mark_written}
-use Rattle.trees.specs.View.{view}
-use Rattle.trees.specs.History.{Stands, Listed}
+use Rattle.trees.specs.Model.{Table}
+use Rattle.trees.specs.History.{Stands}
 use Rattle.trees.specs.Growth.{Grows}
 use Rattle.trees.proofs.Edits.{holds, known_unit}
 use Rattle.trees.proofs.table.UnitTable.mark_written.Goals as goal

@@ -1,4 +1,4 @@
-use Rattle.std.proofs.Common.{◌≡◌, ℕ, ◌+◌, ◌-◌, ◌<◌, ◌≤◌, min, false, List, [], length, take, sym, refl, ap, ◌∙◌, arith}
+use Rattle.std.proofs.Common.{◌≡◌, ℕ, ◌+◌, ◌-◌, min, false, List, [], length, take, ap, arith}
 use Rattle.trees.specs.Lists.{nil}
 use Rattle.trees.specs.Model.{Table, new_table}
 use Rattle.trees.proofs.Growths.{new_grows}

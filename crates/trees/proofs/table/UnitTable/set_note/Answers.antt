@@ -1,8 +1,8 @@
-use Rattle.std.proofs.Common.{◌≡◌, ◌<◌, true, List, length, sym, refl, ap, ◌∙◌, arith}
+use Rattle.std.proofs.Common.{◌<◌, true, length, sym, refl, ap, ◌∙◌, arith}
 use Rattle.std.proofs.lemmas.Bool.{cond-true, cond-false, true≢false}
-use Rattle.trees.specs.Model.{Table, Entry, noted}
+use Rattle.trees.specs.Model.{Table, noted}
 use Rattle.trees.specs.View.{view}
-use Rattle.trees.proofs.Edits.{holds, Known, known, view_count}
+use Rattle.trees.proofs.Edits.{holds, known, view_count}
 use Rattle.trees.proofs.Growths.{kept_entry}
 use Rattle.trees.proofs.Laws.{still_entry}
 use Rattle.trees.proofs.Places.{lists_of}

@@ -1,11 +1,11 @@
-use Rattle.std.proofs.Common.{◌≡◌, ℕ, ◌<◌, ◌≤◌, Bool, true, false, eqb, [], ◌∷◌, length, Ok, Result, sym, refl, ap, ◌∙◌, arith}
+use Rattle.std.proofs.Common.{ℕ, eqb, [], ◌∷◌, length, Ok, Result, sym, ap, ◌∙◌, arith}
 use Rattle.std.proofs.lemmas.Bool.{true≢false}
 use Rattle.trees.specs.declared.records.UnitEntryId.{UnitEntryId}
 use Rattle.trees.specs.declared.records.EditFault.{EditFault}
 use Rattle.trees.specs.declared.records.EditFault.TheVariants.{TableFull}
 use Rattle.trees.specs.Model.{Table, grant, place, knows, as_is}
 use Rattle.trees.specs.View.{view}
-use Rattle.trees.proofs.Edits.{holds, Known, known, passed, passed_as, done, room, view_count, granted}
+use Rattle.trees.proofs.Edits.{holds, known, passed, passed_as, done, room, view_count, granted}
 use Rattle.trees.proofs.table.UnitTable.try_add_entry.Goals as goal
 
 pub check-requires : goal.check-requires

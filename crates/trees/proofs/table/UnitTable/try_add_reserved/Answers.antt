@@ -1,14 +1,12 @@
-use Rattle.std.proofs.Common.{◌≡◌, ℕ, ◌<◌, ◌≤◌, Bool, true, false, not, [], ◌∷◌, Some, None, Ok, Option, Result, sym, refl, ap, ◌∙◌, arith}
+use Rattle.std.proofs.Common.{◌≡◌, Bool, true, false, not, [], ◌∷◌, Ok, sym, refl, ap, ◌∙◌, arith}
 use Rattle.std.proofs.lemmas.Bool.{true≢false}
 use Rattle.trees.specs.declared.records.UnitEntryId.{UnitEntryId}
 use Rattle.trees.specs.declared.records.Reservation.{Reservation}
-use Rattle.trees.specs.declared.records.Refusal.{Refusal}
-use Rattle.trees.specs.declared.records.EditFault.{EditFault}
 use Rattle.trees.specs.declared.records.EditFault.TheVariants.{NotWaiting}
 use Rattle.trees.specs.declared.table.UnitTable.{UnitTable}
-use Rattle.trees.specs.Model.{Table, knows_both, entry_id, entry_of, is_waiting, place, first_fault}
+use Rattle.trees.specs.Model.{Table, knows_both, entry_id, entry_of, is_waiting, place}
 use Rattle.trees.specs.View.{view}
-use Rattle.trees.proofs.Edits.{holds, Known, known_both, passed, passed_as, Passed, done, fault, view_state, waiting_is}
+use Rattle.trees.proofs.Edits.{holds, known_both, passed, passed_as, done, fault, view_state, waiting_is}
 use Rattle.trees.proofs.table.UnitTable.try_add_reserved.Goals as goal
 
 is_both : (t : UnitTable) (r : Reservation) (i p : UnitEntryId) (b : Bool) → i ≡ entry_id r → b ≡ knows_both (view t.records) i p → b ≡ knows_both (view t.records) (entry_id r) p

@@ -1,10 +1,10 @@
-use Rattle.std.proofs.Common.{◌≡◌, ℕ, ◌+◌, ◌<◌, Bool, true, false, cond, [], Ok, Result, sym, refl, ap, ◌∙◌}
+use Rattle.std.proofs.Common.{ℕ, ◌+◌, cond, [], Ok, Result, sym, refl, ap, ◌∙◌}
 use Rattle.std.proofs.lemmas.Bool.{true≢false, cond-true, cond-false}
 use Rattle.trees.specs.declared.records.EditFault.{EditFault}
 use Rattle.trees.specs.Lists.{nil}
 use Rattle.trees.specs.Model.{Table, knows, entry_of, named, unname, amended, as_is}
 use Rattle.trees.specs.View.{view}
-use Rattle.trees.proofs.Edits.{holds, Known, known, passed, passed_as, done}
+use Rattle.trees.proofs.Edits.{holds, known, passed, passed_as, done}
 use Rattle.trees.proofs.Holdings.{unname_none}
 use Rattle.trees.proofs.Values.{is_named, not_named, found_in, amend_none}
 use Rattle.trees.proofs.table.UnitTable.try_delete.Goals as goal

@@ -1,11 +1,11 @@
-use Rattle.std.proofs.Common.{◌≡◌, ℕ, ◌<◌, ◌≤◌, Bool, true, false, cond, not, [], ◌∷◌, Ok, Result, sym, refl, ap, ◌∙◌, arith}
+use Rattle.std.proofs.Common.{◌≡◌, Bool, true, false, cond, [], Ok, Result, sym, refl, ap, ◌∙◌, arith}
 use Rattle.std.proofs.lemmas.Bool.{true≢false, cond-true, cond-false}
 use Rattle.trees.specs.declared.records.EditFault.{EditFault}
 use Rattle.trees.specs.Lists.{has}
 use Rattle.trees.specs.Model.{Table, Entry, knows_both, entry_of, take_out, as_is}
 use Rattle.trees.specs.View.{view}
 use Rattle.trees.proofs.Families.{mem_has}
-use Rattle.trees.proofs.Edits.{holds, Known, known_both, passed, passed_as, done, view_entry}
+use Rattle.trees.proofs.Edits.{holds, known_both, passed, passed_as, done, view_entry}
 use Rattle.trees.proofs.table.UnitTable.try_delete_child.Goals as goal
 
 pub check-requires : goal.check-requires

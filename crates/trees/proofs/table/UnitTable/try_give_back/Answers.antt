@@ -1,14 +1,11 @@
-use Rattle.std.proofs.Common.{◌≡◌, ℕ, ◌<◌, ◌≤◌, Bool, true, false, cond, ◌&&◌, length, sym, refl, ap, ◌∙◌, arith}
+use Rattle.std.proofs.Common.{◌≡◌, Bool, true, false, sym, refl, ap, ◌∙◌, arith}
 use Rattle.std.proofs.lemmas.Bool.{true≢false, and_from, and_right, cond-true, cond-false}
 use Rattle.trees.specs.declared.records.UnitEntryId.{UnitEntryId}
 use Rattle.trees.specs.declared.records.Reservation.{Reservation}
-use Rattle.trees.specs.declared.records.State.{State}
-use Rattle.trees.specs.declared.records.State.TheVariants.{GivenBack}
 use Rattle.trees.specs.declared.table.UnitTable.{UnitTable}
-use Rattle.trees.specs.Model.{Table, knows, entry_id, entry_of, is_waiting, with_entries, change, left, give_back}
+use Rattle.trees.specs.Model.{Table, knows, entry_id, entry_of, is_waiting}
 use Rattle.trees.specs.View.{view}
-use Rattle.trees.proofs.Views.{st}
-use Rattle.trees.proofs.Edits.{holds, Known, known, view_state, waiting_is}
+use Rattle.trees.proofs.Edits.{holds, known, view_state, waiting_is}
 use Rattle.trees.proofs.table.UnitTable.try_give_back.Goals as goal
 
 -- the id is that of the reservation, and known

@@ -1,4 +1,4 @@
-use Rattle.std.proofs.Common.{◌≡◌, ℕ, Bool, true, false, eqb, [], ◌∷◌, length, Ok, Result, sym, refl, ap, ◌∙◌}
+use Rattle.std.proofs.Common.{ℕ, eqb, [], ◌∷◌, length, Ok, Result, sym, ap, ◌∙◌}
 use Rattle.std.proofs.lemmas.Bool.{true≢false}
 use Rattle.trees.specs.declared.records.UnitEntryId.{UnitEntryId}
 use Rattle.trees.specs.declared.records.Reservation.{Reservation}
@@ -6,7 +6,7 @@ use Rattle.trees.specs.declared.records.EditFault.{EditFault}
 use Rattle.trees.specs.declared.records.EditFault.TheVariants.{TableFull}
 use Rattle.trees.specs.Model.{Table, grant, knows_unit, as_is}
 use Rattle.trees.specs.View.{view}
-use Rattle.trees.proofs.Edits.{holds, passed, passed_as, done, room, view_count}
+use Rattle.trees.proofs.Edits.{passed, passed_as, done, room, view_count}
 use Rattle.trees.proofs.table.UnitTable.try_reserve.Goals as goal
 
 pub returns : goal.returns

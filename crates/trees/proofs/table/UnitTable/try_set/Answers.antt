@@ -1,4 +1,4 @@
-use Rattle.std.proofs.Common.{◌≡◌, ℕ, ◌+◌, ◌-◌, ◌<◌, Bool, true, false, cond, not, eqb, List, [], ◌∷◌, ◌++◌, Ok, Result, sym, refl, ap, ◌∙◌, arith}
+use Rattle.std.proofs.Common.{ℕ, ◌-◌, cond, [], ◌∷◌, ◌++◌, Ok, Result, sym, refl, ap, ◌∙◌, arith}
 use Rattle.std.proofs.lemmas.Bool.{true≢false, cond-true, cond-false, eq-eqb, ne_eqb, eqb-false, not-true, not-false}
 use Rattle.trees.specs.declared.records.Attribute.{Attribute}
 use Rattle.trees.specs.declared.records.EditFault.{EditFault}
@@ -6,7 +6,7 @@ use Rattle.trees.specs.declared.records.EditFault.TheVariants.{SiblingName, Span
 use Rattle.trees.specs.Lists.{nil}
 use Rattle.trees.specs.Model.{Table, knows, entry_of, named, put, amended, as_is}
 use Rattle.trees.specs.View.{view}
-use Rattle.trees.proofs.Edits.{holds, Known, known, Passed, passed, passed_as, done, fault}
+use Rattle.trees.proofs.Edits.{holds, known, passed, passed_as, done, fault}
 use Rattle.trees.proofs.Holdings.{put_new}
 use Rattle.trees.proofs.Values.{is_named, not_named, found_in, amend_same, set_checks, set_named, set_room, set_full, set_sibling, set_span}
 use Rattle.trees.proofs.table.UnitTable.try_set.Goals as goal

@@ -1,4 +1,4 @@
-use Rattle.std.proofs.Common.{◌≡◌, sym, ◌∙◌}
+use Rattle.std.proofs.Common.{sym, ◌∙◌}
 use Rattle.trees.specs.View.{view}
 use Rattle.trees.proofs.Edits.{holds, known, passed}
 use Rattle.trees.proofs.table.UnitTable.try_set_sibling.Goals as goal

@@ -1,5 +1,4 @@
-use Rattle.std.proofs.Common.{◌≡◌, ℕ, false, sym, refl, subst}
-use Rattle.trees.specs.Walk.{Ending, rest}
+use Rattle.std.proofs.Common.{sym, subst}
 use Rattle.trees.proofs.Edits.{holds}
 use Rattle.trees.proofs.Paths.{Begins, begins}
 use Rattle.trees.proofs.Reaches.{matches}

@@ -1,9 +1,6 @@
-use Rattle.std.proofs.Common.{◌≡◌, ℕ, ◌<◌, ◌≤◌, Bool, true, false, cond, eqb, List, [], ◌∷◌, length, get_or, sym, refl, ap, ◌∙◌, subst, arith}
-use Rattle.trees.specs.declared.records.Event.{Event}
-use Rattle.trees.specs.declared.records.Event.TheVariants.{Enter, Leave}
+use Rattle.std.proofs.Common.{◌≡◌, Bool, [], sym, refl, subst}
 use Rattle.trees.specs.Lists.{nil}
-use Rattle.trees.specs.Walk.{rest, Ending}
-use Rattle.trees.proofs.Views.{fs, nx, pa}
+use Rattle.trees.specs.Walk.{rest}
 use Rattle.trees.proofs.Paths.{past, finished, into, out, lost, onward}
 use Rattle.trees.proofs.walk.Walk.next.Goals as goal
 

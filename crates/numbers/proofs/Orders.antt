@@ -1,12 +1,12 @@
 use Rattle.std.specs.Prelude.{◌≡◌, ℕ, zero, suc, ◌+◌, ◌*◌, ◌/◌, ◌%◌, ◌^◌, ◌<◌, Bool, true, false, cond, List, [], ◌∷◌, ◌++◌, reverse, length, replicate, slice_index, refl}
 use Rattle.std.proofs.Math.Nat.{div-div-eq-div-mul}
-use Rattle.std.proofs.Common.{mod-eq_of_lt, mul_comm, zero-add, suc-add, add-one, arith, sym, ap, subst, ◌∙◌}
-use Rattle.std.proofs.Math.Numerals.{unary_clauses}
-use mathlib.Core.List.{reverse-cons, reverse-append, reverse-reverse}
+use Rattle.std.proofs.Common.{mod-eq_of_lt, mul_comm, zero-add, suc-add, add-one, arith, sym, ap, ◌∙◌}
+use mathlib.Core.List.{reverse-cons, reverse-append}
 use Rattle.std.proofs.Math.Arith.{mod-mul, digits_div, digits_mod}
-use Rattle.std.proofs.lemmas.Nat.{div_below, mod_below}
+use Rattle.std.proofs.lemmas.Nat.{mod_below}
 use Rattle.std.proofs.lemmas.List.{length-reverse, replicate_more}
 use Rattle.numbers.specs.Orders.{digits, number, ordered, bytes_of, halves_of, value_of}
+use Rattle.numbers.specs.Reading.{power}
 
 -- sizes
 
@@ -18,22 +18,6 @@ pub length_bytes_of : (big : Bool) (size n : ℕ) → length (bytes_of big size 
 unfolding bytes_of
 length_bytes_of true size n = length-reverse (digits size n) ∙ length_digits size n
 length_bytes_of false size n = length_digits size n
-
--- reading undoes writing
-
-power : (k : ℕ) → 256 ^ suc k ≡ 256 ^ k * 256
-power k = simp unary_clauses
-
-number_digits : (size n : ℕ) → n < 256 ^ size → number (digits size n) ≡ n
-number_digits zero n h = omega arith
-number_digits (suc size) n h =
-    let e = number_digits size (n / 256) (div_below n 256 (256 ^ size) (omega arith) (subst (λ m. n < m) (power size) h)) in
-    omega arith
-
-pub value_bytes_of : (big : Bool) (size n : ℕ) → n < 256 ^ size → value_of big (bytes_of big size n) ≡ n
-unfolding bytes_of value_of
-value_bytes_of true size n h = ap number (reverse-reverse (digits size n)) ∙ number_digits size n h
-value_bytes_of false size n h = number_digits size n h
 
 -- the bytes of zero, and one byte
 
