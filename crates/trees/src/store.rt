@@ -1,4 +1,4 @@
-ghost use Rattle.std.specs.Prelude.{◌≡◌, ℕ, ◌+◌, ◌<◌, ◌≤◌, true, false, length, get_or, if◌then◌else◌, MatchOption, nat_eq, slice_index_or, slice_set};
+ghost use Rattle.std.specs.Prelude.{◌≡◌, ℕ, ◌+◌, ◌<◌, ◌≤◌, true, false, length, if◌then◌else◌, MatchOption, nat_eq, slice_index_or, slice_set};
 ghost use Rattle.trees.specs.Lists.{nil, has, kids, Before};
 ghost use Rattle.trees.specs.Model.{is_waiting, is_given_back, with_entries, change, left, flagged, place, take_out, grant, open_unit, mark_written, as_written, noted, no_unit};
 ghost use Rattle.trees.specs.Stores.{modify, with_sibling, with_state, jotted, fresh_record, linked_first, linked_after, unlinked_first, unlinked_after};
@@ -52,7 +52,7 @@ impl<'a> Records<'a> {
     pub(crate) fn retire(&mut self, e: usize)
         requires sound { Holds self.old }
         requires used { e < self.old.entry_count }
-        requires waits { (get_or self.old.entries.now e blank).state ≡ Waiting }
+        requires waits { (slice_index_or self.old.entries.now e blank).state ≡ Waiting }
         ensures sound { Holds self.new }
         ensures view { view self.new ≡ with_entries (view self.old) (change e (left GivenBack) (view self.old).entries) }
     {
@@ -109,8 +109,8 @@ impl<'a> Records<'a> {
         requires sound { Holds self.old }
         requires child { c < self.old.entry_count }
         requires parent { p < self.old.entry_count }
-        requires waits { (get_or self.old.entries.now c blank).state ≡ Waiting }
-        requires same { (get_or self.old.entries.now c blank).unit ≡ (get_or self.old.entries.now p blank).unit }
+        requires waits { (slice_index_or self.old.entries.now c blank).state ≡ Waiting }
+        requires same { (slice_index_or self.old.entries.now c blank).unit ≡ (slice_index_or self.old.entries.now p blank).unit }
         ensures sound { Holds self.new }
         ensures view { view self.new ≡ place (view self.old) c p tag }
     {
