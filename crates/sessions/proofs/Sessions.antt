@@ -4,6 +4,7 @@ use Rattle.trees.specs.declared.records.Reservation.{Reservation}
 use Rattle.trees.specs.declared.records.State.TheVariants.{GivenBack, TakenOut}
 use Rattle.trees.specs.Model.{Entry, Table, no_entry, unless, change, grant, place, take_out, with_entries, left, placed, adopt, abandon, flagged, amend, put, unname, entry_of, entry_id, knows, knows_both, is_waiting, first_fault, edit_checks, as_is}
 use Rattle.trees.specs.Lists.{has}
+use Rattle.trees.specs.History.{History, Stands}
 use Rattle.trees.specs.Growth.{Deeds, Grows}
 use Rattle.scripts.specs.declared.call.Edit.{Edit}
 use Rattle.sessions.specs.declared.order.Order.{Order}
@@ -11,7 +12,7 @@ use Rattle.sessions.specs.declared.order.Order.TheVariants as order
 use Rattle.sessions.specs.declared.order.Answer.{Answer}
 use Rattle.sessions.specs.declared.order.Answer.TheVariants as answer
 use Rattle.sessions.specs.declared.reply.Reply.{Reply}
-use Rattle.sessions.specs.Orders.{carried, deed_of}
+use Rattle.sessions.specs.Orders.{carried, act_of, deed_of}
 use Rattle.sessions.specs.Sessions.{OrderOf, Performed, Led, reply_of, unit_granted, kept_back, units_in}
 
 -- one entry changed, but not its unit
@@ -80,9 +81,10 @@ units_carried t (order.GiveBack r) = gave (knows t (entry_id r) && is_waiting (e
 pub performed : (number : ℕ) (hs₀ hs₁ hs : List ℕ) (ks₀ ks₁ ks₂ ks : List Reservation) (t t' : Table) (x : Edit) (o : Order) (a : Answer) (reply : Reply)
     → hs₁ ≡ hs₀ → ks₁ ≡ ks₀ → OrderOf hs₁ number ks₁ ks₂ x o → (t', a) ≡ carried t o
     → reply ≡ reply_of hs₁ a → hs ≡ hs₁ ++ unit_granted a → ks ≡ ks₂ ++ kept_back a
+    → ((h : History) → Stands h t → Stands (act_of t o ∷ h) t')
     → ((h : Deeds) → Grows h t → Grows (deed_of t o ∷ h) t')
     → Performed number hs₀ hs ks₀ ks t t' x reply
-performed number hs₀ hs₁ hs ks₀ ks₁ ks₂ ks t t' x o a reply eh ek means out rep more kept growth =
+performed number hs₀ hs₁ hs ks₀ ks₁ ks₂ ks t t' x o a reply eh ek means out rep more kept law growth =
     let grants : hs ≡ hs₀ ++ unit_granted (carried t o).1 = more ∙ ap (λ l. l ++ unit_granted a) eh ∙ ap (λ p. hs₀ ++ unit_granted p.1) out in
     record {
       order = o;
@@ -92,18 +94,21 @@ performed number hs₀ hs₁ hs ks₀ ks₁ ks₂ ks t t' x o a reply eh ek mean
       replies = rep ∙ ap (λ l. reply_of l a) eh ∙ ap (λ p. reply_of hs₀ p.1) out;
       grants = grants;
       holds = kept ∙ ap (λ p. ks₂ ++ kept_back p.1) out;
+      law = law;
       growth = growth;
       units = λ e. grants ∙ ap (λ l. l ++ unit_granted (carried t o).1) e ∙ sym (units_carried t o) ∙ ap (λ p. units_in p.0.entries) (sym out);
     }
 
 pub led_more : (hs₀ hs₁ hs₂ : List ℕ) (t₀ t₁ t₂ : Table) → Led hs₀ hs₁ t₀ t₁ → Led hs₁ hs₂ t₁ t₂ → Led hs₀ hs₂ t₀ t₂
 led_more hs₀ hs₁ hs₂ t₀ t₁ t₂ p q = record {
+  law = λ h s. ((q.law ((p.law h s).0 ++ h) (p.law h s).1).0 ++ (p.law h s).0, subst (λ l. Stands l t₂) (sym (append_assoc (q.law ((p.law h s).0 ++ h) (p.law h s).1).0 (p.law h s).0 h)) (q.law ((p.law h s).0 ++ h) (p.law h s).1).1);
   growth = λ h s. ((q.growth ((p.growth h s).0 ++ h) (p.growth h s).1).0 ++ (p.growth h s).0, subst (λ l. Grows l t₂) (sym (append_assoc (q.growth ((p.growth h s).0 ++ h) (p.growth h s).1).0 (p.growth h s).0 h)) (q.growth ((p.growth h s).0 ++ h) (p.growth h s).1).1);
   units = λ e. q.units (p.units e);
 }
 
 pub led_by : (number : ℕ) (hs hs' : List ℕ) (ks ks' : List Reservation) (t t' : Table) (x : Edit) (reply : Reply) → Performed number hs hs' ks ks' t t' x reply → Led hs hs' t t'
 led_by number hs hs' ks ks' t t' x reply p = record {
+  law = λ h s. (act_of t p.order ∷ [], p.law h s);
   growth = λ h s. (deed_of t p.order ∷ [], p.growth h s);
   units = p.units;
 }

@@ -6,7 +6,7 @@ use Rattle.trees.specs.declared.records.Reservation.{Reservation}
 use Rattle.trees.specs.declared.records.AttributeValue.{AttributeValue}
 use Rattle.trees.specs.declared.records.AttributeValue.TheVariants as value
 use Rattle.trees.specs.declared.records.DebugInfoRef.TheVariants as info
-use Rattle.trees.specs.History.{times}
+use Rattle.trees.specs.History.{History, Stands, times}
 use Rattle.trees.specs.Growth.{Deeds, Grows}
 use Rattle.trees.specs.Model.{Entry, Table}
 use Rattle.scripts.specs.declared.call.Edit.{Edit}
@@ -16,7 +16,7 @@ use Rattle.sessions.specs.declared.order.Order.TheVariants as order
 use Rattle.scripts.specs.declared.value.EntryName.{EntryName}
 use Rattle.scripts.specs.declared.value.Value.{Value}
 use Rattle.scripts.specs.declared.value.Value.TheVariants.{Plain, UnitRef, InfoRef}
-use Rattle.sessions.specs.Orders.{carried, deed_of}
+use Rattle.sessions.specs.Orders.{carried, act_of, deed_of}
 use Rattle.sessions.specs.Rolls.{IsEntryOf, Named}
 use Rattle.sessions.specs.declared.order.Answer.{Answer}
 use Rattle.sessions.specs.declared.order.Answer.TheVariants as answer
@@ -105,11 +105,13 @@ pub record Performed (number : ℕ) (homes homes' : List ℕ) (held held' : List
   pub replies : reply ≡ reply_of homes (carried t order).1
   pub grants : homes' ≡ homes ++ unit_granted (carried t order).1
   pub holds : held' ≡ unspent ++ kept_back (carried t order).1
+  pub law : (h : History) → Stands h t → Stands (act_of t order ∷ h) t'
   pub growth : (h : Deeds) → Grows h t → Grows (deed_of t order ∷ h) t'
   pub units : homes ≡ units_in t.entries → homes' ≡ units_in t'.entries
 
 -- where edits have led from one table to another: what calls and answers tell of the first they tell, with
 -- more of them, of the second; and the units that are kept are still those of the entries
 pub record Led (homes homes' : List ℕ) (t t' : Table) : Type 0 where
+  pub law : (h : History) → Stands h t → (more : History) × Stands (more ++ h) t'
   pub growth : (h : Deeds) → Grows h t → (more : Deeds) × Grows (more ++ h) t'
   pub units : homes ≡ units_in t.entries → homes' ≡ units_in t'.entries

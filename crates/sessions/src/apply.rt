@@ -1,7 +1,8 @@
 ghost use Rattle.std.specs.Prelude.{◌≡◌, ◌∷◌};
+ghost use Rattle.trees.specs.History.{History, Stands};
 ghost use Rattle.trees.specs.Growth.{Deeds, Grows};
 ghost use Rattle.trees.specs.View.{view};
-ghost use Rattle.sessions.specs.Orders.{carried, deed_of};
+ghost use Rattle.sessions.specs.Orders.{carried, act_of, deed_of};
 
 use crate::order::{Answer, Order};
 use trees::UnitTable;
@@ -9,6 +10,7 @@ use trees::UnitTable;
 // Carries an order out on a table.
 pub fn apply(table: &mut UnitTable<'_>, order: Order) -> Answer
     ensures outcome { (view table.new.records, result) ≡ carried (view table.old.records) order }
+    ensures law { (h : History) → Stands h (view table.old.records) → Stands (act_of (view table.old.records) order ∷ h) (view table.new.records) }
     ensures growth { (h : Deeds) → Grows h (view table.old.records) → Grows (deed_of (view table.old.records) order ∷ h) (view table.new.records) }
 {
     match order {

@@ -12,4 +12,4 @@ returns c = performed c.args.number
     c.args.edit c.in_ok-order.order c.apply-answer.result c.settle.result
     c.reserve.ensures.items c.reserve-2.ensures.items
     (subst (λ l. OrderOf l c.args.number (vec_items c.reserve-2.new.self) (vec_items c.order.new.held) c.args.edit c.in_ok-order.order) c.as_slice.ensures.value c.in_ok-order.ensures.order)
-    c.apply-answer.ensures.outcome c.settle.ensures.reply c.settle.ensures.homes c.settle.ensures.held c.apply-answer.ensures.growth
+    c.apply-answer.ensures.outcome c.settle.ensures.reply c.settle.ensures.homes c.settle.ensures.held c.apply-answer.ensures.law c.apply-answer.ensures.growth
