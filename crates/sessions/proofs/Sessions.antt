@@ -5,7 +5,7 @@ use Rattle.trees.specs.declared.records.State.TheVariants.{GivenBack, TakenOut}
 use Rattle.trees.specs.Model.{Entry, Table, no_entry, unless, change, grant, place, take_out, with_entries, left, placed, adopt, abandon, flagged, amend, put, unname, entry_of, entry_id, knows, knows_both, is_waiting, first_fault, edit_checks, as_is}
 use Rattle.trees.specs.Lists.{has}
 use Rattle.trees.specs.History.{History, Stands}
-use Rattle.trees.specs.Growth.{Deeds, Grows}
+use Rattle.trees.specs.Growth.{Deeds, Grows, Tells, acts_in}
 use Rattle.scripts.specs.declared.call.Edit.{Edit}
 use Rattle.sessions.specs.declared.order.Order.{Order}
 use Rattle.sessions.specs.declared.order.Order.TheVariants as order
@@ -101,14 +101,24 @@ performed number hs₀ hs₁ hs ks₀ ks₁ ks₂ ks t t' x o a reply eh ek mean
 
 pub led_more : (hs₀ hs₁ hs₂ : List ℕ) (t₀ t₁ t₂ : Table) → Led hs₀ hs₁ t₀ t₁ → Led hs₁ hs₂ t₁ t₂ → Led hs₀ hs₂ t₀ t₂
 led_more hs₀ hs₁ hs₂ t₀ t₁ t₂ p q = record {
-  law = λ h s. ((q.law ((p.law h s).0 ++ h) (p.law h s).1).0 ++ (p.law h s).0, subst (λ l. Stands l t₂) (sym (append_assoc (q.law ((p.law h s).0 ++ h) (p.law h s).1).0 (p.law h s).0 h)) (q.law ((p.law h s).0 ++ h) (p.law h s).1).1);
-  growth = λ h s. ((q.growth ((p.growth h s).0 ++ h) (p.growth h s).1).0 ++ (p.growth h s).0, subst (λ l. Grows l t₂) (sym (append_assoc (q.growth ((p.growth h s).0 ++ h) (p.growth h s).1).0 (p.growth h s).0 h)) (q.growth ((p.growth h s).0 ++ h) (p.growth h s).1).1);
+  tells = λ h s. ((q.tells ((p.tells h s).0 ++ h) (p.tells h s).1).0 ++ (p.tells h s).0, subst (λ l. Tells l t₂) (sym (append_assoc (q.tells ((p.tells h s).0 ++ h) (p.tells h s).1).0 (p.tells h s).0 h)) (q.tells ((p.tells h s).0 ++ h) (p.tells h s).1).1);
   units = λ e. q.units (p.units e);
 }
 
+-- an order is one call in both histories
+acts_more : (t : Table) (o : Order) (h : Deeds) → acts_in (deed_of t o ∷ h) ≡ act_of t o ∷ acts_in h
+acts_more t (order.Unit encoding line) h = refl
+acts_more t (order.Reserve u) h = refl
+acts_more t (order.AddReserved r p tag) h = refl
+acts_more t (order.Add p tag) h = refl
+acts_more t (order.Set i name v) h = refl
+acts_more t (order.Delete i name) h = refl
+acts_more t (order.SetSibling i b) h = refl
+acts_more t (order.DeleteChild p c) h = refl
+acts_more t (order.GiveBack r) h = refl
+
 pub led_by : (number : ℕ) (hs hs' : List ℕ) (ks ks' : List Reservation) (t t' : Table) (x : Edit) (reply : Reply) → Performed number hs hs' ks ks' t t' x reply → Led hs hs' t t'
 led_by number hs hs' ks ks' t t' x reply p = record {
-  law = λ h s. (act_of t p.order ∷ [], p.law h s);
-  growth = λ h s. (deed_of t p.order ∷ [], p.growth h s);
+  tells = λ h s. (deed_of t p.order ∷ [], (subst (λ l. Stands l t') (sym (acts_more t p.order h)) (p.law (acts_in h) s.0), p.growth h s.1));
   units = p.units;
 }

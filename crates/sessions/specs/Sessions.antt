@@ -7,7 +7,7 @@ use Rattle.trees.specs.declared.records.AttributeValue.{AttributeValue}
 use Rattle.trees.specs.declared.records.AttributeValue.TheVariants as value
 use Rattle.trees.specs.declared.records.DebugInfoRef.TheVariants as info
 use Rattle.trees.specs.History.{History, Stands, times}
-use Rattle.trees.specs.Growth.{Deeds, Grows}
+use Rattle.trees.specs.Growth.{Deeds, Grows, Tells}
 use Rattle.trees.specs.Model.{Entry, Table}
 use Rattle.scripts.specs.declared.call.Edit.{Edit}
 use Rattle.scripts.specs.declared.call.Edit.TheVariants as edit
@@ -112,6 +112,5 @@ pub record Performed (number : ℕ) (homes homes' : List ℕ) (held held' : List
 -- where edits have led from one table to another: what calls and answers tell of the first they tell, with
 -- more of them, of the second; and the units that are kept are still those of the entries
 pub record Led (homes homes' : List ℕ) (t t' : Table) : Type 0 where
-  pub law : (h : History) → Stands h t → (more : History) × Stands (more ++ h) t'
-  pub growth : (h : Deeds) → Grows h t → (more : Deeds) × Grows (more ++ h) t'
+  pub tells : (h : Deeds) → Tells h t → (more : Deeds) × Tells (more ++ h) t'
   pub units : homes ≡ units_in t.entries → homes' ≡ units_in t'.entries

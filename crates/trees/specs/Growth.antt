@@ -9,6 +9,7 @@ use Rattle.trees.specs.declared.records.Attribute.{Attribute}
 use Rattle.trees.specs.declared.records.AttributeValue.{AttributeValue}
 use Rattle.trees.specs.declared.records.Encoding.{Encoding}
 use Rattle.trees.specs.declared.records.LineProgram.{LineProgram}
+use Rattle.trees.specs.History.{Act as act, History, Stands}
 use Rattle.trees.specs.Lists.{without}
 use Rattle.trees.specs.Model.{Entry, Table, entry_of, put, unname}
 
@@ -125,3 +126,24 @@ contents_by (a ∷ h) = grown (entries_by h) a (contents_by h)
 pub record Grows (h : Deeds) (t : Table) : Type 0 where
   pub entries : length t.entries ≡ entries_by h
   pub trees : (e : ℕ) → contents_in t e ≡ contents_by h e
+
+-- a call without the arguments that the states need not; a step of a write is no call
+abbrev pub acts_of : Deed → History
+acts_of (unit_added encoding line r) = act.unit_added r ∷ []
+acts_of (reserved u r) = act.reserved u r ∷ []
+acts_of (reserved_added r p tag a) = act.reserved_added r p a ∷ []
+acts_of (entry_added p tag r) = act.entry_added p r ∷ []
+acts_of (gave_back r a) = act.gave_back r a ∷ []
+acts_of (child_deleted p c r) = act.child_deleted p c r ∷ []
+acts_of (sibling_set i b r) = act.edited r ∷ []
+acts_of (attribute_set i name value r) = act.edited r ∷ []
+acts_of (attribute_deleted i name r) = act.edited r ∷ []
+acts_of (bases_moved p r) = []
+
+abbrev pub acts_in : Deeds → History
+acts_in [] = []
+acts_in (d ∷ h) = acts_of d ++ acts_in h
+
+-- what the answers so far tell of the table: of its states, and of its trees
+abbrev pub Tells : Deeds → Table → Type 0
+Tells h t = Stands (acts_in h) t × Grows h t
