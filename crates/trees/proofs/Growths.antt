@@ -3,7 +3,6 @@ use Rattle.std.proofs.Common.{◌≡◌, ℕ, ◌+◌, ◌<◌, ◌≤◌, Bool,
 use mathlib.Core.Path.{fun_ext}
 use Rattle.std.proofs.lemmas.List.{get_or_push, get_or_past, get_or_append_left, length_push}
 use Rattle.std.proofs.lemmas.Bool.{cases_lt, cases_eq, eq-eqb, ne_eqb, and_parts}
-use Rattle.trees.specs.declared.records.State.{State}
 use Rattle.trees.specs.declared.records.State.TheVariants.{Root, Waiting, TakenOut, GivenBack}
 use Rattle.trees.specs.declared.records.Refusal.{Refusal}
 use Rattle.trees.specs.declared.records.EditFault.{EditFault}
@@ -14,8 +13,9 @@ use Rattle.trees.specs.declared.records.Encoding.{Encoding}
 use Rattle.trees.specs.declared.records.LineProgram.{LineProgram}
 use Rattle.trees.specs.declared.records.EditFault.TheVariants.{SessionClosed, TableFull, NotWaiting}
 use Rattle.trees.specs.Lists.{has}
-use Rattle.trees.specs.Model.{Entry, Table, Check, no_entry, entry_of, change, new_entry, unless, as_is, is_waiting, first_fault, edit_checks, knows, knows_unit, knows_both, entry_id, place, placed, adopt, abandon, left, with_entries, take_out, grant, open_unit, new_id, new_reservation, new_table, add_unit, reserve, add_reserved, add, give_back, delete_child}
+use Rattle.trees.specs.Model.{Entry, Table, Check, no_entry, entry_of, change, new_entry, unless, as_is, is_waiting, first_fault, edit_checks, knows, knows_unit, knows_both, entry_id, place, placed, adopt, abandon, left, with_entries, take_out, grant, new_table, add_unit, reserve, add_reserved, add, give_back, delete_child}
 use Rattle.trees.specs.Growth.{Deed, Deed.unit_added, Deed.reserved, Deed.reserved_added, Deed.entry_added, Deed.gave_back, Deed.child_deleted, Deeds, Contents, contents_of, contents_in, nothing, tagged, gains, loses, at, grown, makes_entries, entries_by, Grows}
+use Rattle.trees.proofs.Steps.{unit_done, reserve_done, place_done, back_done, back_as, delete_done, edit_done, add_done}
 use Rattle.trees.proofs.Views.{change_at, length_change}
 use Rattle.trees.proofs.Laws.{cleared, known_used}
 
@@ -52,9 +52,9 @@ contents_push t t' x q e =
       ]
     ]
 
--- a change of state alone
-pub left_same : (t t' : Table) (i : ℕ) (s : State) → i < length t.entries → t'.entries ≡ change i (left s) t.entries → (e : ℕ) → contents_in t' e ≡ contents_in t e
-left_same t t' i s h q e = contents_change t t' i (left s) (λ c. c) h q (λ x. refl) e ∙ both (eqb e i) (contents_in t e)
+-- one entry changed, in nothing that it holds
+pub contents_kept : (t t' : Table) (i : ℕ) (f : Entry → Entry) → i < length t.entries → t'.entries ≡ change i f t.entries → ((x : Entry) → contents_of (f x) ≡ contents_of x) → (e : ℕ) → contents_in t' e ≡ contents_in t e
+contents_kept t t' i f h q w e = contents_change t t' i f (λ c. c) h q w e ∙ both (eqb e i) (contents_in t e)
   where
     both : (b : Bool) (c : Contents) → cond b c c ≡ c
     both true c = refl
@@ -71,17 +71,9 @@ grows t t' a w h S = record {
   trees = λ e. w.trees e ∙ (ap (λ (n : ℕ). grown n a (contents_in t) e) S.entries ∙ ap (λ (f : ℕ → Contents). grown (entries_by h) a f e) (fun_ext S.trees));
 }
 
--- a step of the writer that keeps the trees, and is no call of a history
-pub kept : (t t' : Table) → length t'.entries ≡ length t.entries → ((e : ℕ) → contents_in t' e ≡ contents_in t e) → (h : Deeds) → Grows h t → Grows h t'
-kept t t' n w h S = record { entries = n ∙ S.entries; trees = λ e. w e ∙ S.trees e }
-
--- one entry changed, in nothing that it holds
+-- a step of the writer that changes one entry, in nothing that it holds, and is no call of a history
 pub kept_entry : (t t' : Table) (i : ℕ) (f : Entry → Entry) → i < length t.entries → t'.entries ≡ change i f t.entries → ((x : Entry) → contents_of (f x) ≡ contents_of x) → (h : Deeds) → Grows h t → Grows h t'
-kept_entry t t' i f l q w = kept t t' (ap length q ∙ length_change t.entries i f) (λ e. contents_change t t' i f (λ c. c) l q w e ∙ both (eqb e i) (contents_in t e))
-  where
-    both : (b : Bool) (c : Contents) → cond b c c ≡ c
-    both true c = refl
-    both false c = refl
+kept_entry t t' i f l q w h S = record { entries = ap length q ∙ (length_change t.entries i f ∙ S.entries); trees = λ e. contents_kept t t' i f l q w e ∙ S.trees e }
 
 -- an edit of one entry that makes no entry
 pub record Edits (act : Result Unit EditFault → Deed) (i : UnitEntryId) (g : Contents → Contents) : Type 0 where
@@ -104,39 +96,30 @@ module _ (t : Table) where
   grant_grew u e = contents_push t (grant t u) (new_entry u Waiting 0) refl e ∙ elim (cases_eq e (length t.entries))
       [ inl p ↦ rw (eq-eqb e (length t.entries) p) (sym (none_yet t e (omega arith))) | inr p ↦ rw (ne_eqb e (length t.entries) p) ]
 
-  abbrev unit_done : (encoding : Encoding) (line : LineProgram) → Table × Result UnitId EditFault
-  unit_done encoding line = (open_unit t encoding line, Ok (record { table = t.number; unit = length t.units }))
-
   pub unit_grew : (encoding : Encoding) (line : LineProgram) (x : Table × Result UnitId EditFault) → x ≡ add_unit t encoding line → Grew t x.0 (unit_added encoding line x.1)
   unit_grew encoding line x q = subst (λ (x : Table × Result UnitId EditFault). Grew t x.0 (unit_added encoding line x.1)) (sym q) (go (first_fault ((t.closed, SessionClosed) ∷ ((eqb t.units_left 0 || eqb t.entries_left 0, TableFull) ∷ []))))
     where
-      go : (o : Option EditFault) → Grew t (unless o as_is t (unit_done encoding line)).0 (unit_added encoding line (unless o as_is t (unit_done encoding line)).1)
+      go : (o : Option EditFault) → Grew t (unless o as_is t (unit_done t encoding line)).0 (unit_added encoding line (unless o as_is t (unit_done t encoding line)).1)
       go None = record {
         count = length_push t.entries (new_entry (length t.units) Root 17) ∙ omega arith;
-        trees = λ e. contents_push t (unit_done encoding line).0 (new_entry (length t.units) Root 17) refl e ∙ elim (cases_eq e (length t.entries))
+        trees = λ e. contents_push t (unit_done t encoding line).0 (new_entry (length t.units) Root 17) refl e ∙ elim (cases_eq e (length t.entries))
             [ inl p ↦ rw (eq-eqb e (length t.entries) p) (sym (ap (tagged 17) (none_yet t e (omega arith)))) | inr p ↦ rw (ne_eqb e (length t.entries) p) ];
       }
       go (Some f) = same t (unit_added encoding line (Err f)) refl refl
 
-  abbrev reserve_done : (u : UnitId) → Table × Result (UnitEntryId × Reservation) EditFault
-  reserve_done u = (grant t u.unit, Ok (new_id t u.unit, new_reservation t u.unit))
-
   pub reserve_grew : (u : UnitId) (x : Table × Result (UnitEntryId × Reservation) EditFault) → x ≡ reserve t u → Grew t x.0 (reserved u x.1)
   reserve_grew u x q = subst (λ (x : Table × Result (UnitEntryId × Reservation) EditFault). Grew t x.0 (reserved u x.1)) (sym q) (go (first_fault (edit_checks t (knows_unit t u) u.unit ((eqb t.entries_left 0, TableFull) ∷ []))))
     where
-      go : (o : Option EditFault) → Grew t (unless o as_is t (reserve_done u)).0 (reserved u (unless o as_is t (reserve_done u)).1)
+      go : (o : Option EditFault) → Grew t (unless o as_is t (reserve_done t u)).0 (reserved u (unless o as_is t (reserve_done t u)).1)
       go None = record { count = length_push t.entries (new_entry u.unit Waiting 0) ∙ omega arith; trees = grant_grew u.unit }
       go (Some f) = same t (reserved u (Err f)) refl refl
-
-  abbrev place_done : (r : Reservation) (p : UnitEntryId) (tag : ℕ) → Table × Result Unit Refusal
-  place_done r p tag = (place t r.entry p.entry tag, Ok tt)
 
   pub reserved_grew : (r : Reservation) (p : UnitEntryId) (tag : ℕ) (x : Table × Result Unit Refusal) → x ≡ add_reserved t r p tag → Grew t x.0 (reserved_added r p tag x.1)
   reserved_grew r p tag x q = subst (λ (x : Table × Result Unit Refusal). Grew t x.0 (reserved_added r p tag x.1)) (sym q)
       (go (first_fault (edit_checks t (knows_both t (entry_id r) p) r.unit ((not (is_waiting (entry_of t r.entry).state), NotWaiting) ∷ []))) refl)
     where
       go : (o : Option EditFault) → first_fault (edit_checks t (knows_both t (entry_id r) p) r.unit ((not (is_waiting (entry_of t r.entry).state), NotWaiting) ∷ [])) ≡ o
-          → Grew t (unless o (λ f. record { fault = f; reservation = r }) t (place_done r p tag)).0 (reserved_added r p tag (unless o (λ f. record { fault = f; reservation = r }) t (place_done r p tag)).1)
+          → Grew t (unless o (λ f. record { fault = f; reservation = r }) t (place_done t r p tag)).0 (reserved_added r p tag (unless o (λ f. record { fault = f; reservation = r }) t (place_done t r p tag)).1)
       go None e =
           let c = cleared t (knows_both t (entry_id r) p) r.unit ((not (is_waiting (entry_of t r.entry).state), NotWaiting) ∷ []) e in
           let b = and_parts (knows t (entry_id r)) _ c.0 in
@@ -144,29 +127,20 @@ module _ (t : Table) where
           record { count = place_length r.entry p.entry tag ∙ omega arith; trees = place_grew r.entry p.entry tag (known_used t (entry_id r) b.0) hp }
       go (Some f) e = same t (reserved_added r p tag (Err (record { fault = f; reservation = r }))) refl refl
 
-  abbrev back_done : (r : Reservation) → Table
-  back_done r = with_entries t (change r.entry (left GivenBack) t.entries)
-
-  abbrev back_as : (r : Reservation) → Bool → Table × Bool
-  back_as r b = cond b (back_done r, true) (t, false)
-
   pub back_grew : (r : Reservation) (x : Table × Bool) → x ≡ give_back t r → Grew t x.0 (gave_back r x.1)
   back_grew r x q = subst (λ (x : Table × Bool). Grew t x.0 (gave_back r x.1)) (sym q) (go (knows t (entry_id r) && is_waiting (entry_of t r.entry).state) refl)
     where
-      go : (b : Bool) → (knows t (entry_id r) && is_waiting (entry_of t r.entry).state) ≡ b → Grew t (back_as r b).0 (gave_back r (back_as r b).1)
+      go : (b : Bool) → (knows t (entry_id r) && is_waiting (entry_of t r.entry).state) ≡ b → Grew t (back_as t r b).0 (gave_back r (back_as t r b).1)
       go true e =
           let b = and_parts (knows t (entry_id r)) _ e in
-          record { count = length_change t.entries r.entry (left GivenBack) ∙ omega arith; trees = left_same t (back_done r) r.entry GivenBack (known_used t (entry_id r) b.0) refl }
+          record { count = length_change t.entries r.entry (left GivenBack) ∙ omega arith; trees = contents_kept t (back_done t r) r.entry (left GivenBack) (known_used t (entry_id r) b.0) refl (λ x. refl) }
       go false e = same t (gave_back r false) refl refl
-
-  abbrev delete_done : (p c : UnitEntryId) → Bool → Table × Result Bool EditFault
-  delete_done p c b = cond b (take_out t p.entry c.entry, Ok true) (t, Ok false)
 
   pub delete_grew : (p c : UnitEntryId) (x : Table × Result Bool EditFault) → x ≡ delete_child t p c → Grew t x.0 (child_deleted p c x.1)
   delete_grew p c x q = subst (λ (x : Table × Result Bool EditFault). Grew t x.0 (child_deleted p c x.1)) (sym q) (go (first_fault (edit_checks t (knows_both t p c) p.unit [])) refl (has c.entry (entry_of t p.entry).children))
     where
       go : (o : Option EditFault) → first_fault (edit_checks t (knows_both t p c) p.unit []) ≡ o → (b : Bool)
-          → Grew t (unless o as_is t (delete_done p c b)).0 (child_deleted p c (unless o as_is t (delete_done p c b)).1)
+          → Grew t (unless o as_is t (delete_done t p c b)).0 (child_deleted p c (unless o as_is t (delete_done t p c b)).1)
       go None e true =
           let k = and_parts (knows t p) _ (cleared t (knows_both t p c) p.unit [] e).0 in
           let hp = known_used t p k.0 in
@@ -176,13 +150,10 @@ module _ (t : Table) where
           let hc1 : c.entry < length t1.entries = rw (length_change t.entries p.entry (abandon c.entry)) hc in
           record {
             count = length_change t1.entries c.entry (left TakenOut) ∙ (length_change t.entries p.entry (abandon c.entry) ∙ omega arith);
-            trees = λ e. left_same t1 t2 c.entry TakenOut hc1 refl e ∙ contents_change t t1 p.entry (abandon c.entry) (loses c.entry) hp refl (λ x. refl) e;
+            trees = λ e. contents_kept t1 t2 c.entry (left TakenOut) hc1 refl (λ x. refl) e ∙ contents_change t t1 p.entry (abandon c.entry) (loses c.entry) hp refl (λ x. refl) e;
           }
       go None e false = same t (child_deleted p c (Ok false)) refl refl
       go (Some f) e b = same t (child_deleted p c (Err f)) refl refl
-
-  abbrev edit_done : Table → Option EditFault → Table × Result Unit EditFault
-  edit_done d o = unless o as_is t (d, Ok tt)
 
   -- where `act` is the call with its answer, and g what it makes of what the entry holds
   pub edit_grew : (act : Result Unit EditFault → Deed) (k : Bool) (u : ℕ) (more : List Check) (i : UnitEntryId) (f : Entry → Entry) (g : Contents → Contents) (d : Table) → (k ≡ true → knows t i ≡ true) → d.entries ≡ change i.entry f t.entries
@@ -190,20 +161,17 @@ module _ (t : Table) where
       → (x : Table × Result Unit EditFault) → x ≡ unless (first_fault (edit_checks t k u more)) as_is t (d, Ok tt) → Grew t x.0 (act x.1)
   edit_grew act k u more i f g d kn q w y x e = subst (λ (x : Table × Result Unit EditFault). Grew t x.0 (act x.1)) (sym e) (go (first_fault (edit_checks t k u more)) refl)
     where
-      go : (o : Option EditFault) → first_fault (edit_checks t k u more) ≡ o → Grew t (edit_done d o).0 (act (edit_done d o).1)
+      go : (o : Option EditFault) → first_fault (edit_checks t k u more) ≡ o → Grew t (edit_done t d o).0 (act (edit_done t d o).1)
       go None p = record {
         count = ap length q ∙ (length_change t.entries i.entry f ∙ sym (rw (w.none (Ok tt)) (omega arith)));
         trees = λ e. contents_change t d i.entry f g (known_used t i (kn (cleared t k u more p).0)) q y e ∙ sym (λ j. w.done (length t.entries) (contents_in t) j e);
       }
       go (Some x) p = same t (act (Err x)) (w.none (Err x)) (w.refused (length t.entries) (contents_in t) x)
 
-  abbrev add_done : (p : UnitEntryId) (tag : ℕ) → Table × Result UnitEntryId EditFault
-  add_done p tag = (place (grant t p.unit) (length t.entries) p.entry tag, Ok (new_id t p.unit))
-
   pub add_grew : (p : UnitEntryId) (tag : ℕ) (x : Table × Result UnitEntryId EditFault) → x ≡ add t p tag → Grew t x.0 (entry_added p tag x.1)
   add_grew p tag x q = subst (λ (x : Table × Result UnitEntryId EditFault). Grew t x.0 (entry_added p tag x.1)) (sym q) (go (first_fault (edit_checks t (knows t p) p.unit ((eqb t.entries_left 0, TableFull) ∷ []))) refl)
     where
-      go : (o : Option EditFault) → first_fault (edit_checks t (knows t p) p.unit ((eqb t.entries_left 0, TableFull) ∷ [])) ≡ o → Grew t (unless o as_is t (add_done p tag)).0 (entry_added p tag (unless o as_is t (add_done p tag)).1)
+      go : (o : Option EditFault) → first_fault (edit_checks t (knows t p) p.unit ((eqb t.entries_left 0, TableFull) ∷ [])) ≡ o → Grew t (unless o as_is t (add_done t p tag)).0 (entry_added p tag (unless o as_is t (add_done t p tag)).1)
       go None e =
           let n = length t.entries in
           let t1 = grant t p.unit in
@@ -213,7 +181,7 @@ module _ (t : Table) where
           let hn : n < length t1.entries = omega arith in
           record {
             count = length_change t2.entries p.entry (adopt n) ∙ (length_change t1.entries n (placed tag) ∙ (l1 ∙ omega arith));
-            trees = λ e. contents_change t2 (add_done p tag).0 p.entry (adopt n) (gains n) (rw (length_change t1.entries n (placed tag)) (omega arith)) refl (λ x. refl) e
+            trees = λ e. contents_change t2 (add_done t p tag).0 p.entry (adopt n) (gains n) (rw (length_change t1.entries n (placed tag)) (omega arith)) refl (λ x. refl) e
                 ∙ ap (λ (f : ℕ → Contents). at p.entry (gains n) f e) (fun_ext (λ v. contents_change t1 t2 n (placed tag) (tagged tag) hn refl (λ x. refl) v ∙ ap (λ (f : ℕ → Contents). at n (tagged tag) f v) (fun_ext (grant_grew p.unit))));
           }
       go (Some f) e = same t (entry_added p tag (Err f)) refl refl

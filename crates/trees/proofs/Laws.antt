@@ -13,8 +13,9 @@ use Rattle.trees.specs.declared.records.Encoding.{Encoding}
 use Rattle.trees.specs.declared.records.LineProgram.{LineProgram}
 use Rattle.trees.specs.declared.records.EditFault.TheVariants.{SessionClosed, TableFull, NotWaiting}
 use Rattle.trees.specs.Lists.{has}
-use Rattle.trees.specs.Model.{Entry, Table, Check, no_entry, entry_of, unit_of, change, new_entry, unless, as_is, is_waiting, first_fault, edit_checks, knows, knows_unit, knows_both, entry_id, place, placed, adopt, abandon, left, with_entries, take_out, grant, open_unit, new_id, new_reservation, new_table, add_unit, reserve, add_reserved, add, give_back, delete_child}
+use Rattle.trees.specs.Model.{Entry, Table, Check, no_entry, entry_of, unit_of, change, new_entry, unless, as_is, is_waiting, first_fault, edit_checks, knows, knows_unit, knows_both, entry_id, place, placed, adopt, abandon, left, with_entries, take_out, grant, new_table, add_unit, reserve, add_reserved, add, give_back, delete_child}
 use Rattle.trees.specs.History.{Act, Act.unit_added, Act.reserved, Act.reserved_added, Act.entry_added, Act.gave_back, Act.child_deleted, Act.edited, History, times, makes, remade, state_by, grants, of_state, state_in, is_state, in_state, Listed, Stands}
+use Rattle.trees.proofs.Steps.{unit_done, reserve_done, place_done, back_done, back_as, delete_done, edit_done, add_done}
 use Rattle.trees.proofs.Views.{change_at, length_change}
 
 -- the four states together
@@ -142,59 +143,44 @@ module _ (t : Table) (h : History) (S : Stands h t) where
       let xs = change c (placed tag) t.entries in
       all_change xs p (adopt c) refl ∙ all_change t.entries c (placed tag) (sym (one_waiting (entry_of t c).state w))
 
-  abbrev unit_done : (encoding : Encoding) (line : LineProgram) → Table × Result UnitId EditFault
-  unit_done encoding line = (open_unit t encoding line, Ok (record { table = t.number; unit = length t.units }))
-
   pub unit_law : (encoding : Encoding) (line : LineProgram) (x : Table × Result UnitId EditFault) → x ≡ add_unit t encoding line → Listed x.0 → Stands (unit_added x.1 ∷ h) x.0
   unit_law encoding line x q = subst (λ (x : Table × Result UnitId EditFault). Listed x.0 → Stands (unit_added x.1 ∷ h) x.0) (sym q) (go (first_fault ((t.closed, SessionClosed) ∷ ((eqb t.units_left 0 || eqb t.entries_left 0, TableFull) ∷ []))))
     where
-      go : (o : Option EditFault) → Listed (unless o as_is t (unit_done encoding line)).0 → Stands (unit_added (unless o as_is t (unit_done encoding line)).1 ∷ h) (unless o as_is t (unit_done encoding line)).0
-      go None l = quiet t (unit_done encoding line).0 (unit_added (unit_done encoding line).1) refl refl
-          (λ e. state_push t (unit_done encoding line).0 (new_entry (length t.units) Root 17) refl e ∙ elim (cases_eq e (length t.entries))
+      go : (o : Option EditFault) → Listed (unless o as_is t (unit_done t encoding line)).0 → Stands (unit_added (unless o as_is t (unit_done t encoding line)).1 ∷ h) (unless o as_is t (unit_done t encoding line)).0
+      go None l = quiet t (unit_done t encoding line).0 (unit_added (unit_done t encoding line).1) refl refl
+          (λ e. state_push t (unit_done t encoding line).0 (new_entry (length t.units) Root 17) refl e ∙ elim (cases_eq e (length t.entries))
           [ inl p ↦ rw (eq-eqb e (length t.entries) p) (sym (rw (le-ltb e (length t.entries) (omega arith)))) | inr p ↦ rw (ne_eqb e (length t.entries) p) ])
           (all_push t.entries (new_entry (length t.units) Root 17) ∙ omega arith) l h S
       go (Some f) l = quiet t t (unit_added (Err f)) refl refl (λ e. refl) refl l h S
 
-  abbrev reserve_done : (u : UnitId) → Table × Result (UnitEntryId × Reservation) EditFault
-  reserve_done u = (grant t u.unit, Ok (new_id t u.unit, new_reservation t u.unit))
-
   pub reserve_law : (u : UnitId) (x : Table × Result (UnitEntryId × Reservation) EditFault) → x ≡ reserve t u → Listed x.0 → Stands (reserved u x.1 ∷ h) x.0
   reserve_law u x q = subst (λ (x : Table × Result (UnitEntryId × Reservation) EditFault). Listed x.0 → Stands (reserved u x.1 ∷ h) x.0) (sym q) (go (first_fault (edit_checks t (knows_unit t u) u.unit ((eqb t.entries_left 0, TableFull) ∷ []))))
     where
-      go : (o : Option EditFault) → Listed (unless o as_is t (reserve_done u)).0 → Stands (reserved u (unless o as_is t (reserve_done u)).1 ∷ h) (unless o as_is t (reserve_done u)).0
-      go None l = moved t (reserve_done u).0 (reserved u (reserve_done u).1) (length t.entries) Waiting 1 refl refl (state_push t (reserve_done u).0 (new_entry u.unit Waiting 0) refl) (all_push t.entries (new_entry u.unit Waiting 0)) l h S
+      go : (o : Option EditFault) → Listed (unless o as_is t (reserve_done t u)).0 → Stands (reserved u (unless o as_is t (reserve_done t u)).1 ∷ h) (unless o as_is t (reserve_done t u)).0
+      go None l = moved t (reserve_done t u).0 (reserved u (reserve_done t u).1) (length t.entries) Waiting 1 refl refl (state_push t (reserve_done t u).0 (new_entry u.unit Waiting 0) refl) (all_push t.entries (new_entry u.unit Waiting 0)) l h S
       go (Some f) l = quiet t t (reserved u (Err f)) refl refl (λ e. refl) refl l h S
-
-  abbrev place_done : (r : Reservation) (p : UnitEntryId) (tag : ℕ) → Table × Result Unit Refusal
-  place_done r p tag = (place t r.entry p.entry tag, Ok tt)
 
   pub reserved_law : (r : Reservation) (p : UnitEntryId) (tag : ℕ) (x : Table × Result Unit Refusal) → x ≡ add_reserved t r p tag → Listed x.0 → Stands (reserved_added r p x.1 ∷ h) x.0
   reserved_law r p tag x q = subst (λ (x : Table × Result Unit Refusal). Listed x.0 → Stands (reserved_added r p x.1 ∷ h) x.0) (sym q)
       (go (first_fault (edit_checks t (knows_both t (entry_id r) p) r.unit ((not (is_waiting (entry_of t r.entry).state), NotWaiting) ∷ []))) refl)
     where
       go : (o : Option EditFault) → first_fault (edit_checks t (knows_both t (entry_id r) p) r.unit ((not (is_waiting (entry_of t r.entry).state), NotWaiting) ∷ [])) ≡ o
-          → Listed (unless o (λ f. record { fault = f; reservation = r }) t (place_done r p tag)).0 → Stands (reserved_added r p (unless o (λ f. record { fault = f; reservation = r }) t (place_done r p tag)).1 ∷ h) (unless o (λ f. record { fault = f; reservation = r }) t (place_done r p tag)).0
+          → Listed (unless o (λ f. record { fault = f; reservation = r }) t (place_done t r p tag)).0 → Stands (reserved_added r p (unless o (λ f. record { fault = f; reservation = r }) t (place_done t r p tag)).1 ∷ h) (unless o (λ f. record { fault = f; reservation = r }) t (place_done t r p tag)).0
       go None e l =
           let c = cleared t (knows_both t (entry_id r) p) r.unit ((not (is_waiting (entry_of t r.entry).state), NotWaiting) ∷ []) e in
           let b = and_parts (knows t (entry_id r)) _ c.0 in
           let hp = known_used t p (and_parts (knows t p) _ b.1).0 in
           let w = waits t r.entry c.1 in
-          moved t (place_done r p tag).0 (reserved_added r p (Ok tt)) r.entry Placed 0 refl refl (place_states r.entry p.entry tag (known_used t (entry_id r) b.0) hp) (place_count r.entry p.entry tag w ∙ omega arith) l h S
+          moved t (place_done t r p tag).0 (reserved_added r p (Ok tt)) r.entry Placed 0 refl refl (place_states r.entry p.entry tag (known_used t (entry_id r) b.0) hp) (place_count r.entry p.entry tag w ∙ omega arith) l h S
       go (Some f) e l = quiet t t (reserved_added r p (Err (record { fault = f; reservation = r }))) refl refl (λ e. refl) refl l h S
-
-  abbrev back_done : (r : Reservation) → Table
-  back_done r = with_entries t (change r.entry (left GivenBack) t.entries)
-
-  abbrev back_as : (r : Reservation) → Bool → Table × Bool
-  back_as r b = cond b (back_done r, true) (t, false)
 
   pub back_law : (r : Reservation) (x : Table × Bool) → x ≡ give_back t r → Listed x.0 → Stands (gave_back r x.1 ∷ h) x.0
   back_law r x q = subst (λ (x : Table × Bool). Listed x.0 → Stands (gave_back r x.1 ∷ h) x.0) (sym q) (go (knows t (entry_id r) && is_waiting (entry_of t r.entry).state) refl)
     where
-      go : (b : Bool) → (knows t (entry_id r) && is_waiting (entry_of t r.entry).state) ≡ b → Listed (back_as r b).0 → Stands (gave_back r (back_as r b).1 ∷ h) (back_as r b).0
+      go : (b : Bool) → (knows t (entry_id r) && is_waiting (entry_of t r.entry).state) ≡ b → Listed (back_as t r b).0 → Stands (gave_back r (back_as t r b).1 ∷ h) (back_as t r b).0
       go true e l =
           let b = and_parts (knows t (entry_id r)) _ e in
-          moved t (back_done r) (gave_back r true) r.entry GivenBack 0 refl refl (state_change t (back_done r) r.entry (left GivenBack) GivenBack (known_used t (entry_id r) b.0) refl refl)
+          moved t (back_done t r) (gave_back r true) r.entry GivenBack 0 refl refl (state_change t (back_done t r) r.entry (left GivenBack) GivenBack (known_used t (entry_id r) b.0) refl refl)
           (all_change t.entries r.entry (left GivenBack) (sym (one_waiting (entry_of t r.entry).state b.1)) ∙ omega arith) l h S
       go false e l = quiet t t (gave_back r false) refl refl (λ e. refl) refl l h S
 
@@ -220,14 +206,11 @@ module _ (t : Table) (h : History) (S : Stands h t) where
       go TakenOut q = ap one q
       go GivenBack q = ap one q
 
-  abbrev delete_done : (p c : UnitEntryId) → Bool → Table × Result Bool EditFault
-  delete_done p c b = cond b (take_out t p.entry c.entry, Ok true) (t, Ok false)
-
   pub delete_law : (p c : UnitEntryId) (x : Table × Result Bool EditFault) → x ≡ delete_child t p c → Listed x.0 → Stands (child_deleted p c x.1 ∷ h) x.0
   delete_law p c x q = subst (λ (x : Table × Result Bool EditFault). Listed x.0 → Stands (child_deleted p c x.1 ∷ h) x.0) (sym q) (go (first_fault (edit_checks t (knows_both t p c) p.unit [])) refl (has c.entry (entry_of t p.entry).children) refl)
     where
       go : (o : Option EditFault) → first_fault (edit_checks t (knows_both t p c) p.unit []) ≡ o → (b : Bool) → has c.entry (entry_of t p.entry).children ≡ b
-          → Listed (unless o as_is t (delete_done p c b)).0 → Stands (child_deleted p c (unless o as_is t (delete_done p c b)).1 ∷ h) (unless o as_is t (delete_done p c b)).0
+          → Listed (unless o as_is t (delete_done t p c b)).0 → Stands (child_deleted p c (unless o as_is t (delete_done t p c b)).1 ∷ h) (unless o as_is t (delete_done t p c b)).0
       go None e true z l =
           let k = and_parts (knows t p) _ (cleared t (knows_both t p c) p.unit [] e).0 in
           let hp = known_used t p k.0 in
@@ -247,25 +230,18 @@ module _ (t : Table) (h : History) (S : Stands h t) where
       go None e false z l = quiet t t (child_deleted p c (Ok false)) refl refl (λ e. refl) refl l h S
       go (Some f) e b z l = quiet t t (child_deleted p c (Err f)) refl refl (λ e. refl) refl l h S
 
-  -- an edit that keeps every state
-  abbrev edit_done : Table → Option EditFault → Table × Result Unit EditFault
-  edit_done d o = unless o as_is t (d, Ok tt)
-
   pub edit_law : (k : Bool) (u : ℕ) (more : List Check) (i : UnitEntryId) (f : Entry → Entry) (d : Table) → (k ≡ true → knows t i ≡ true) → d.entries ≡ change i.entry f t.entries → (f (entry_of t i.entry)).state ≡ (entry_of t i.entry).state
       → (x : Table × Result Unit EditFault) → x ≡ unless (first_fault (edit_checks t k u more)) as_is t (d, Ok tt) → Listed x.0 → Stands (edited x.1 ∷ h) x.0
   edit_law k u more i f d kn q z x e = subst (λ (x : Table × Result Unit EditFault). Listed x.0 → Stands (edited x.1 ∷ h) x.0) (sym e) (go (first_fault (edit_checks t k u more)) refl)
     where
-      go : (o : Option EditFault) → first_fault (edit_checks t k u more) ≡ o → Listed (edit_done d o).0 → Stands (edited (edit_done d o).1 ∷ h) (edit_done d o).0
+      go : (o : Option EditFault) → first_fault (edit_checks t k u more) ≡ o → Listed (edit_done t d o).0 → Stands (edited (edit_done t d o).1 ∷ h) (edit_done t d o).0
       go None p l = quiet t d (edited (Ok tt)) refl refl (state_kept t d i.entry f (known_used t i (kn (cleared t k u more p).0)) q z) (ap all q ∙ all_change t.entries i.entry f (ap one z)) l h S
       go (Some g) p l = quiet t t (edited (Err g)) refl refl (λ e. refl) refl l h S
-
-  abbrev add_done : (p : UnitEntryId) (tag : ℕ) → Table × Result UnitEntryId EditFault
-  add_done p tag = (place (grant t p.unit) (length t.entries) p.entry tag, Ok (new_id t p.unit))
 
   pub add_law : (p : UnitEntryId) (tag : ℕ) (x : Table × Result UnitEntryId EditFault) → x ≡ add t p tag → Listed x.0 → Stands (entry_added p x.1 ∷ h) x.0
   add_law p tag x q = subst (λ (x : Table × Result UnitEntryId EditFault). Listed x.0 → Stands (entry_added p x.1 ∷ h) x.0) (sym q) (go (first_fault (edit_checks t (knows t p) p.unit ((eqb t.entries_left 0, TableFull) ∷ []))) refl)
     where
-      go : (o : Option EditFault) → first_fault (edit_checks t (knows t p) p.unit ((eqb t.entries_left 0, TableFull) ∷ [])) ≡ o → Listed (unless o as_is t (add_done p tag)).0 → Stands (entry_added p (unless o as_is t (add_done p tag)).1 ∷ h) (unless o as_is t (add_done p tag)).0
+      go : (o : Option EditFault) → first_fault (edit_checks t (knows t p) p.unit ((eqb t.entries_left 0, TableFull) ∷ [])) ≡ o → Listed (unless o as_is t (add_done t p tag)).0 → Stands (entry_added p (unless o as_is t (add_done t p tag)).1 ∷ h) (unless o as_is t (add_done t p tag)).0
       go None e l =
           let n = length t.entries in
           let t1 = grant t p.unit in
@@ -275,8 +251,8 @@ module _ (t : Table) (h : History) (S : Stands h t) where
           let t2 = with_entries t1 (change n (placed tag) t1.entries) in
           let hn : n < length t1.entries = omega arith in
           let new : entry_of t1 n ≡ x1 = get_or_push t.entries x1 no_entry n refl in
-          moved t (add_done p tag).0 (entry_added p (add_done p tag).1) n Placed 1 refl refl
-          (λ e. state_kept t2 (add_done p tag).0 p.entry (adopt n) (rw (length_change t1.entries n (placed tag)) (omega arith)) refl refl e
+          moved t (add_done t p tag).0 (entry_added p (add_done t p tag).1) n Placed 1 refl refl
+          (λ e. state_kept t2 (add_done t p tag).0 p.entry (adopt n) (rw (length_change t1.entries n (placed tag)) (omega arith)) refl refl e
           ∙ (state_change t1 t2 n (placed tag) Placed hn refl refl e ∙ (ap (λ (o : Option State). cond (eqb e n) (Some Placed) o) (state_push t t1 x1 refl e) ∙ twice (eqb e n) (state_in t e))))
           (all_change t2.entries p.entry (adopt n) refl ∙ (all_change t1.entries n (placed tag) (sym (ap (λ (y : Entry). one y.state) new)) ∙ all_push t.entries x1)) l h S
         where

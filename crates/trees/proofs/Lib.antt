@@ -13,6 +13,7 @@ mod Walks
 mod Holdings
 mod Joins
 mod Values
+mod Steps
 mod Laws
 mod Growths
 mod Places
