@@ -1,4 +1,5 @@
 pub mod Calls
+pub mod Complaints
 pub mod Kinds
 pub mod Lines
 pub mod Payloads

@@ -1,4 +1,5 @@
-ghost use Rattle.std.specs.Prelude.{◌≡◌};
+ghost use Rattle.std.specs.Prelude.{◌≡◌, Some};
+ghost use Rattle.scripts.specs.Complaints.{text_of};
 ghost use Rattle.scripts.specs.declared.complaint.Complaint.TheVariants.{NoMemory, Word};
 
 use std::alloc::{AllocError, AllocFailed};
@@ -22,15 +23,15 @@ pub enum Complaint {
     NoMemory,
 }
 
-impl fmt::Display for Complaint {
-    fn fmt<W: fmt::Write>(&self, f: &mut fmt::Formatter<W>) -> fmt::Result {
-        if let Complaint::Word(word) = *self {
-            return write!(f, "{word}");
-        }
-        f.write_str(match *self {
+impl Complaint {
+    // What it says.
+    fn text(self) -> &'static str
+        ensures { result.now ≡ text_of self }
+    {
+        match self {
             Complaint::UnknownWord => "unknown word",
             Complaint::WordCount => "a missing or an extra word",
-            Complaint::Word(_) => "",
+            Complaint::Word(word) => word.text(),
             Complaint::UnknownValue => "unknown kind of value",
             Complaint::BadFormat => "the format is neither 32 nor 64",
             Complaint::BadLineProgram => "unknown line program",
@@ -40,7 +41,15 @@ impl fmt::Display for Complaint {
             Complaint::UnknownReference => "a value refers to an entry that is not made",
             Complaint::NotHeld => "no reservation of that entry is held",
             Complaint::NoMemory => "no memory",
-        })
+        }
+    }
+}
+
+impl fmt::Display for Complaint {
+    ghost output = { λ c. Some (text_of c) };
+
+    fn fmt<W: fmt::Write>(&self, f: &mut fmt::Formatter<W>) -> fmt::Result {
+        f.write_str(self.text())
     }
 }
 

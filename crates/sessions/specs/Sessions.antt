@@ -1,5 +1,5 @@
 -- What a session keeps of its table's answers: the unit of each entry granted, and the reservations not spent.
-use Rattle.std.specs.Prelude.{◌≡◌, ℕ, ◌<◌, List, [], ◌∷◌, ◌++◌, length, Ok, Err, slice_index_or}
+use Rattle.std.specs.Prelude.{◌≡◌, ◌≢◌, ℕ, ◌<◌, ◌≤◌, ◌⊎◌, List, [], ◌∷◌, ◌++◌, length, Ok, Err, slice_index_or}
 use Rattle.std.specs.List.{remove}
 use Rattle.trees.specs.declared.records.UnitEntryId.{UnitEntryId}
 use Rattle.trees.specs.declared.records.Reservation.{Reservation}
@@ -13,6 +13,8 @@ use Rattle.scripts.specs.declared.call.Edit.{Edit}
 use Rattle.scripts.specs.declared.call.Edit.TheVariants as edit
 use Rattle.sessions.specs.declared.order.Order.{Order}
 use Rattle.sessions.specs.declared.order.Order.TheVariants as order
+use Rattle.scripts.specs.declared.complaint.Complaint.{Complaint}
+use Rattle.scripts.specs.declared.complaint.Complaint.TheVariants.{NotHeld, UnknownReference, NoMemory}
 use Rattle.scripts.specs.declared.value.EntryName.{EntryName}
 use Rattle.scripts.specs.declared.value.Value.{Value}
 use Rattle.scripts.specs.declared.value.Value.TheVariants.{Plain, UnitRef, InfoRef}
@@ -89,6 +91,36 @@ OrderOf homes table held held' (edit.Delete x name) o = (held' ≡ held) × (i :
 OrderOf homes table held held' (edit.SetSibling x b) o = (held' ≡ held) × (i : UnitEntryId) × Named homes table x i × (o ≡ order.SetSibling i b)
 OrderOf homes table held held' (edit.DeleteChild p c) o = (held' ≡ held) × (i : UnitEntryId) × (j : UnitEntryId) × Named homes table p i × Named homes table c j × (o ≡ order.DeleteChild i j)
 OrderOf homes table held held' (edit.GiveBack x) o = (r : Reservation) × HeldOf homes table held held' x r × (o ≡ order.GiveBack r)
+
+-- a value that refers to an entry of which so many were not granted
+abbrev pub NotMade : List ℕ → Value → Type 0
+NotMade homes (Plain v) = ⊥
+NotMade homes (UnitRef x) = length homes ≤ 4294967295 → times x.unit homes ≤ x.entry
+NotMade homes (InfoRef x) = length homes ≤ 4294967295 → times x.unit homes ≤ x.entry
+
+-- no reservation of an entry is held
+abbrev pub IsFree : List Reservation → ℕ → Type 0
+IsFree held e = (k : ℕ) → k < length held → (slice_index_or held k no_token).entry ≢ e
+
+-- and so of the entry that a name says
+abbrev pub NotHeldOf : List ℕ → ℕ → List Reservation → EntryName → Type 0
+NotHeldOf homes table held x = (i : UnitEntryId) × Named homes table x i × IsFree held i.entry
+
+-- why an edit is no order, and with which complaint
+abbrev pub Complains : List ℕ → ℕ → List Reservation → Edit → Complaint → Type 0
+Complains homes table held (edit.Unit encoding line) c = ⊥
+Complains homes table held (edit.Reserve u) c = ⊥
+Complains homes table held (edit.AddReserved x p tag) c = (c ≡ NotHeld) × NotHeldOf homes table held x
+Complains homes table held (edit.Add p tag) c = ⊥
+Complains homes table held (edit.Set x name v) c = (c ≡ UnknownReference) × NotMade homes v
+Complains homes table held (edit.Delete x name) c = ⊥
+Complains homes table held (edit.SetSibling x b) c = ⊥
+Complains homes table held (edit.DeleteChild p c') c = ⊥
+Complains homes table held (edit.GiveBack x) c = (c ≡ NotHeld) × NotHeldOf homes table held x
+
+-- why an edit is not performed: it is no order, or there is no memory
+abbrev pub Unperformed : List ℕ → ℕ → List Reservation → Edit → Complaint → Type 0
+Unperformed homes table held x c = (c ≡ NoMemory) ⊎ Complains homes table held x c
 
 -- the unit of each entry of a table
 abbrev pub units_in : List Entry → List ℕ

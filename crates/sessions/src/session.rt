@@ -1,7 +1,7 @@
 ghost use Rattle.std.specs.Prelude.{◌≡◌, ◌<◌, ◌≤◌, ◌++◌, length, IfSome, vec_len, vec_capacity, MatchOption, MatchResult, slice_index_or};
 ghost use Rattle.trees.specs.Model.{entry_id};
 ghost use Rattle.trees.specs.View.{view};
-ghost use Rattle.sessions.specs.Sessions.{unit_granted, kept_back, reply_of, no_token, InIds, HeldOf, OrderOf, Performed};
+ghost use Rattle.sessions.specs.Sessions.{unit_granted, kept_back, reply_of, no_token, InIds, NotMade, IsFree, HeldOf, NotHeldOf, OrderOf, Complains, Unperformed, Performed};
 
 use crate::apply::apply;
 use crate::order::{Answer, Order};
@@ -14,7 +14,7 @@ use trees::{AttributeValue, DebugInfoRef, Refusal, Reservation, UnitId, UnitTabl
 
 // Where the reservation of an entry is held.
 fn held_at(held: &[Reservation], entry: u32) -> Option<usize>
-    ensures { IfSome result (λ i. (i < length held.now) × ((slice_index_or held.now i no_token).entry ≡ entry)) }
+    ensures { MatchOption result (IsFree held.now entry) (λ i. (i < length held.now) × ((slice_index_or held.now i no_token).entry ≡ entry)) }
 {
     for i in 0..held.len() {
         if held[i].id().entry == entry {
@@ -73,7 +73,7 @@ fn settle(homes: &mut Vec<u32>, held: &mut Vec<Reservation>, answer: Answer) -> 
 
 // A value in the table's ids, none where it refers to an entry that was not granted.
 fn in_ids(homes: &[u32], table: u32, value: Value) -> Option<AttributeValue>
-    ensures { IfSome result (InIds homes.now table value) }
+    ensures { MatchOption result (NotMade homes.now value) (InIds homes.now table value) }
 {
     match value {
         Value::Plain(plain) => Some(plain),
@@ -91,7 +91,7 @@ fn take_held(
     table: u32,
     name: EntryName,
 ) -> Option<Reservation>
-    ensures held { MatchOption result (held.new.items ≡ held.old.items) (HeldOf homes.now table held.old.items held.new.items name) }
+    ensures held { MatchOption result ((held.new.items ≡ held.old.items) × NotHeldOf homes.now table held.old.items name) (HeldOf homes.now table held.old.items held.new.items name) }
     ensures room { (vec_len held.new ≤ vec_len held.old) × (vec_capacity held.new ≡ vec_capacity held.old) }
 {
     let id = id_of(homes, table, name);
@@ -106,7 +106,7 @@ fn order(
     table: u32,
     edit: Edit,
 ) -> Result<Order, Complaint>
-    ensures order { MatchResult result (OrderOf homes.now table held.old.items held.new.items edit) (λ _. held.new.items ≡ held.old.items) }
+    ensures order { MatchResult result (OrderOf homes.now table held.old.items held.new.items edit) (λ c. (held.new.items ≡ held.old.items) × Complains homes.now table held.old.items edit c) }
     ensures room { (vec_len held.new ≤ vec_len held.old) × (vec_capacity held.new ≡ vec_capacity held.old) }
 {
     match edit {
@@ -150,7 +150,7 @@ pub fn perform(
 ) -> Result<Reply, Complaint>
     ensures { MatchResult result
         (Performed number homes.old.items homes.new.items held.old.items held.new.items (view table.old.records) (view table.new.records) edit)
-        (λ _. (view table.new.records ≡ view table.old.records) × (homes.new.items ≡ homes.old.items) × (held.new.items ≡ held.old.items)) }
+        (λ c. (view table.new.records ≡ view table.old.records) × (homes.new.items ≡ homes.old.items) × (held.new.items ≡ held.old.items) × Unperformed homes.old.items number held.old.items edit c) }
 {
     homes.reserve(1)?;
     held.reserve(1)?;

@@ -1,5 +1,5 @@
--- When a word is refused.
-use Rattle.std.specs.Prelude.{◌≡◌, ℕ, ◌≤◌, List, Some, None, Option}
+-- When a word is refused, and what is said of it.
+use Rattle.std.specs.Prelude.{◌≡◌, ℕ, ◌≤◌, List, Some, None, Option, codes}
 use Rattle.texts.specs.declared.bad_word.BadWord.{BadWord}
 use Rattle.texts.specs.declared.bad_word.BadWord.TheVariants.{NotANumber, OutOfRange, NotBytes, NoMemory}
 
@@ -16,3 +16,10 @@ NoBytes o NotANumber = ⊥
 NoBytes o OutOfRange = ⊥
 NoBytes o NotBytes = o ≡ None
 NoBytes o NoMemory = Unit {0}
+
+-- what each refusal says
+abbrev pub text_of : BadWord → List ℕ
+text_of NotANumber = codes "not a number of at most 64 bits"
+text_of OutOfRange = codes "number out of range"
+text_of NotBytes = codes "not pairs of lower-case hex digits"
+text_of NoMemory = codes "no memory"

@@ -1,4 +1,5 @@
-ghost use Rattle.std.specs.Prelude.{◌≡◌};
+ghost use Rattle.std.specs.Prelude.{◌≡◌, Some};
+ghost use Rattle.texts.specs.Words.{text_of};
 ghost use Rattle.texts.specs.declared.bad_word.BadWord.TheVariants.{NoMemory};
 
 use std::alloc::{AllocError, AllocFailed};
@@ -13,14 +14,25 @@ pub enum BadWord {
     NoMemory,
 }
 
-impl fmt::Display for BadWord {
-    fn fmt<W: fmt::Write>(&self, f: &mut fmt::Formatter<W>) -> fmt::Result {
-        f.write_str(match *self {
+impl BadWord {
+    // What it says.
+    pub fn text(self) -> &'static str
+        ensures { result.now ≡ text_of self }
+    {
+        match self {
             BadWord::NotANumber => "not a number of at most 64 bits",
             BadWord::OutOfRange => "number out of range",
             BadWord::NotBytes => "not pairs of lower-case hex digits",
             BadWord::NoMemory => "no memory",
-        })
+        }
+    }
+}
+
+impl fmt::Display for BadWord {
+    ghost output = { λ w. Some (text_of w) };
+
+    fn fmt<W: fmt::Write>(&self, f: &mut fmt::Formatter<W>) -> fmt::Result {
+        f.write_str(self.text())
     }
 }
 
