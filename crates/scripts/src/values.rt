@@ -1,4 +1,5 @@
-ghost use Rattle.std.specs.Prelude.{◌≡◌, ℕ, List, [], ◌∷◌, ◌++◌, IfOk, Some};
+ghost use Rattle.std.specs.Prelude.{◌≡◌, ℕ, List, [], ◌∷◌, ◌++◌, IfOk, MatchResult, Some};
+ghost use Rattle.scripts.specs.Complaints.{NoFlag, NoEntryName};
 ghost use Rattle.texts.specs.Texts.{number_of, bytes_named};
 ghost use Rattle.scripts.specs.Kinds.{kind_of};
 ghost use Rattle.scripts.specs.Values.{bit, bytes_at, PlainFrom, value_kind, ValueFrom, texts_of};
@@ -13,7 +14,7 @@ use trees::{AttributeValue, DebugInfoRef, Span};
 
 // A flag, 0 or 1.
 pub fn flag(text: &str) -> Result<bool, Complaint>
-    ensures { IfOk result (λ b. number_of text.now ≡ Some (bit b)) }
+    ensures { MatchResult result (λ b. number_of text.now ≡ Some (bit b)) (NoFlag (number_of text.now)) }
 {
     match wide(text)? {
         0 => Ok(false),
@@ -127,7 +128,7 @@ fn word_value(heap: Global, pool: &mut Vec<u8>, kind: Kind, a: &str) -> Result<V
 
 // An entry, by its unit and its number in the unit.
 pub fn entry_name(unit: &str, entry: &str) -> Result<EntryName, Complaint>
-    ensures { IfOk result (λ x. (number_of unit.now ≡ Some x.unit) × (number_of entry.now ≡ Some x.entry)) }
+    ensures { MatchResult result (λ x. (number_of unit.now ≡ Some x.unit) × (number_of entry.now ≡ Some x.entry)) (NoEntryName (number_of unit.now) (number_of entry.now)) }
 {
     Ok(EntryName {
         unit: half(unit)?,
