@@ -1,4 +1,4 @@
-use Rattle.std.specs.Prelude.{ℕ, List, Some, None, codes, Option}
+use Rattle.std.specs.Prelude.{ℕ, ◌≢◌, List, Some, None, codes, Option}
 use Rattle.scripts.specs.declared.kind.Kind.{Kind}
 use Rattle.scripts.specs.declared.kind.Kind.TheVariants as kind
 use Rattle.numbers.specs.declared.common.Address.{Address}
@@ -52,6 +52,10 @@ word_of kind.Inline = codes "inline"
 word_of kind.Ordering = codes "ordering"
 word_of kind.FileIndexNone = codes "file_index_none"
 word_of kind.FileIndex = codes "file_index"
+
+-- a word that is no kind's
+abbrev pub NoKind : List ℕ → Type 0
+NoKind w = (v : Kind) → word_of v ≢ w
 
 abbrev pub address_kind : Address → Kind
 address_kind (Constant n) = kind.Address

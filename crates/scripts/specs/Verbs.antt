@@ -1,4 +1,4 @@
-use Rattle.std.specs.Prelude.{ℕ, List, codes}
+use Rattle.std.specs.Prelude.{ℕ, ◌≢◌, List, codes}
 use Rattle.scripts.specs.declared.verb.Verb.{Verb}
 use Rattle.scripts.specs.declared.verb.Verb.TheVariants as verb
 
@@ -16,3 +16,7 @@ word_of verb.GiveBack = codes "give_back"
 word_of verb.Attrs = codes "attrs"
 word_of verb.Children = codes "children"
 word_of verb.Entry = codes "entry"
+
+-- a word that is no verb's
+abbrev pub NoVerb : List ℕ → Type 0
+NoVerb w = (v : Verb) → word_of v ≢ w

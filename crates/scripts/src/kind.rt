@@ -1,5 +1,5 @@
-ghost use Rattle.std.specs.Prelude.{◌≡◌, IfSome};
-ghost use Rattle.scripts.specs.Kinds.{word_of};
+ghost use Rattle.std.specs.Prelude.{◌≡◌, MatchOption};
+ghost use Rattle.scripts.specs.Kinds.{word_of, NoKind};
 
 // What kind of value an attribute has, as a script says it.
 #[derive(Clone, Copy)]
@@ -147,7 +147,7 @@ const KINDS: [Kind; 42] = [
 
 // The kind that a word says.
 pub fn kind_named(word: &str) -> Option<Kind>
-    ensures { IfSome result (λ v. word_of v ≡ word.now) }
+    ensures { MatchOption result (NoKind word.now) (λ v. word_of v ≡ word.now) }
 {
     for it in KINDS {
         if it.word() == word {

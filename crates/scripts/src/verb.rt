@@ -1,5 +1,5 @@
-ghost use Rattle.std.specs.Prelude.{◌≡◌, IfSome};
-ghost use Rattle.scripts.specs.Verbs.{word_of};
+ghost use Rattle.std.specs.Prelude.{◌≡◌, MatchOption};
+ghost use Rattle.scripts.specs.Verbs.{word_of, NoVerb};
 
 // The word that says what a line of a session asks.
 #[derive(Clone, Copy)]
@@ -57,7 +57,7 @@ const VERBS: [Verb; 12] = [
 
 // The verb that a word says.
 pub fn verb_named(word: &str) -> Option<Verb>
-    ensures { IfSome result (λ v. word_of v ≡ word.now) }
+    ensures { MatchOption result (NoVerb word.now) (λ v. word_of v ≡ word.now) }
 {
     for it in VERBS {
         if it.word() == word {
