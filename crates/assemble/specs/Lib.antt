@@ -1,4 +1,3 @@
 pub mod Acts
 pub mod Orders
-pub mod Texts
 pub mod Verbs

@@ -1,72 +1,82 @@
-use Rattle.std.specs.Prelude.{ℕ, Bool, List, [], ◌∷◌, ◌++◌, length, Ok, Err, Result, slice_index_or, slice_set}
+use Rattle.std.specs.Prelude.{ℕ, Bool, List, [], ◌∷◌, ◌++◌, length, Some, None, Option, Ok, Err, Result, slice_index_or, slice_set, vec_items}
 use Rattle.numbers.specs.declared.common.Format.{Format}
 use Rattle.sections.specs.declared.fault.Fault.{Fault}
 use Rattle.sections.specs.declared.token.InitialLengthOffset.{InitialLengthOffset}
 use Rattle.sections.specs.Section.{Section}
 use Rattle.sections.specs.Lengths.{opened, length_at}
 use Rattle.assemble.specs.declared.answer.Answer.{Answer}
-use Rattle.assemble.specs.declared.answer.Answer.TheVariants.{Done, Opened, GivenUp, Refused, NotOpen}
+use Rattle.assemble.specs.declared.answer.Answer.TheVariants.{Done, Opened, GivenUp}
+use Rattle.assemble.specs.declared.answer.Refusal.{Refusal}
+use Rattle.assemble.specs.declared.answer.Refusal.TheVariants as refusal
+use Rattle.assemble.specs.declared.bench.Bench.{Bench}
 use Rattle.assemble.specs.declared.call.Order.{Order}
 use Rattle.assemble.specs.declared.call.Order.TheVariants.{Run, OpenLength, FillLength, GiveUp}
+use Rattle.assemble.specs.declared.complaint.Complaint.{Complaint}
 use Rattle.assemble.specs.declared.line.Entry.{Entry}
 use Rattle.assemble.specs.declared.line.Line.{Line}
 use Rattle.assemble.specs.declared.line.Line.TheVariants as line
-use Rattle.assemble.specs.declared.slot.Slot.{Slot}
-use Rattle.assemble.specs.declared.slot.Slot.TheVariants.{Open, Spent}
 use Rattle.assemble.specs.Acts.{act_of}
 
--- what an order leaves: the section, its opened lengths, and the answer
-abbrev pub Outcome : Type 0
-Outcome = Section × List Slot × Answer
-
-abbrev pub answer_of : Result Unit Fault → Answer
-answer_of (Ok u) = Done
-answer_of (Err e) = Refused e
-
--- a call leaves the opened lengths as they are
-abbrev pub answered : List Slot → Section × Result Unit Fault → Outcome
-answered xs o = (o.0, xs, answer_of o.1)
-
--- an opened length comes last; a refused one does not come
-abbrev pub kept : List Slot → Section × Result InitialLengthOffset Fault → Outcome
-kept xs o = elim o.1 [ Ok x ↦ (o.0, xs ++ Open x ∷ [], Opened (length xs) x.offset) | Err e ↦ (o.0, xs, Refused e) ]
-
-abbrev pub opening : Format → Section → List Slot → Outcome
-opening format s xs = kept xs (opened format s)
-
--- an open length is filled, and its slot spent; else nothing changes
-abbrev pub filled : Slot → ℕ → ℕ → Section → List Slot → Outcome
-filled (Open x) i n s xs = answered (slice_set xs i Spent) (length_at x n s)
-filled Spent i n s xs = (s, xs, NotOpen)
-
-abbrev pub filling : ℕ → ℕ → Section → List Slot → Outcome
-filling i n s xs = filled (slice_index_or xs i Spent) i n s xs
-
--- the same without a write
-abbrev pub left : Slot → ℕ → List Slot → List Slot × Answer
-left (Open x) i xs = (slice_set xs i Spent, GivenUp x.offset)
-left Spent i xs = (xs, NotOpen)
-
-abbrev pub giving_up : ℕ → List Slot → List Slot × Answer
-giving_up i xs = left (slice_index_or xs i Spent) i xs
-
--- what an order does
-abbrev pub performing : Bool → Order → Section → List Slot → Outcome
-performing relocates (Run c) s xs = answered xs (act_of relocates c s)
-performing relocates (OpenLength format) s xs = opening format s xs
-performing relocates (FillLength i n) s xs = filling i n s xs
-performing relocates (GiveUp i) s xs = (s, (giving_up i xs).0, (giving_up i xs).1)
+-- an opened length, until it is filled or given up
+abbrev pub Length : Type 0
+Length = Option InitialLengthOffset
 
 -- a section and its opened lengths
 abbrev pub State : Type 0
-State = Section × List Slot
+State = Section × List Length
+
+-- what stands on a bench whose writer means a section
+abbrev pub state_of : {L : Type 0} → (L → Section) → Bench L → State
+state_of meaning bench = (meaning bench.writer, vec_items bench.lengths)
+
+-- what an order leaves, and the answer
+abbrev pub Outcome : Type 0
+Outcome = State × Result Answer Refusal
+
+abbrev pub answer_of : Result Unit Fault → Result Answer Refusal
+answer_of (Ok u) = Ok Done
+answer_of (Err e) = Err (refusal.Fault e)
+
+-- a call leaves the opened lengths as they are
+abbrev pub answered : List Length → Section × Result Unit Fault → Outcome
+answered xs o = ((o.0, xs), answer_of o.1)
+
+-- an opened length comes last; a refused one does not come
+abbrev pub kept : List Length → Section × Result InitialLengthOffset Fault → Outcome
+kept xs o = elim o.1 [ Ok x ↦ ((o.0, xs ++ Some x ∷ []), Ok (Opened (length xs) x.offset)) | Err e ↦ ((o.0, xs), Err (refusal.Fault e)) ]
+
+abbrev pub opening : Format → State → Outcome
+opening format p = kept p.1 (opened format p.0)
+
+-- an open length is filled, and is none from then on; else nothing changes
+abbrev pub filled : Length → ℕ → ℕ → State → Outcome
+filled (Some x) i n p = answered (slice_set p.1 i None) (length_at x n p.0)
+filled None i n p = (p, Err refusal.NotOpen)
+
+abbrev pub filling : ℕ → ℕ → State → Outcome
+filling i n p = filled (slice_index_or p.1 i None) i n p
+
+-- the same without a write
+abbrev pub left : Length → ℕ → State → Outcome
+left (Some x) i p = ((p.0, slice_set p.1 i None), Ok (GivenUp x.offset))
+left None i p = (p, Err refusal.NotOpen)
+
+abbrev pub giving_up : ℕ → State → Outcome
+giving_up i p = left (slice_index_or p.1 i None) i p
+
+-- what an order does
+abbrev pub performing : Bool → Order → State → Outcome
+performing relocates (Run c) p = answered p.1 (act_of relocates c p.0)
+performing relocates (OpenLength format) p = opening format p
+performing relocates (FillLength i n) p = filling i n p
+performing relocates (GiveUp i) p = giving_up i p
 
 -- what a line does: an order is carried out, and any other line changes nothing
-abbrev pub line_done : Bool → Line → State → State
-line_done relocates line.Empty p = p
-line_done relocates (line.Pile x) p = p
-line_done relocates (line.Order o) p = ((performing relocates o p.0 p.1).0, (performing relocates o p.0 p.1).1)
-line_done relocates (line.Bad x) p = p
+abbrev pub line_done : Bool → Result Line Complaint → State → State
+line_done relocates (Ok line.Empty) p = p
+line_done relocates (Ok (line.Pile x)) p = p
+line_done relocates (Ok (line.Order o)) p = (performing relocates o p).0
+line_done relocates (Err x) p = p
 
 -- what lines do, one after the other
 abbrev pub lines_done : Bool → List Entry → State → State

@@ -1,4 +1,5 @@
-use Rattle.std.specs.Prelude.{◌≡◌, ℕ, List, [], Some, vec_items, codes, slice_index_or}
+use Rattle.std.specs.Prelude.{◌≡◌, ℕ, List, [], Contains, Some, vec_items, codes, slice_index_or, refl}
+use Rattle.std.proofs.Common.{lit<}
 use Rattle.numbers.specs.Common.{section_name}
 use Rattle.numbers.specs.declared.common.Address.{Address}
 use Rattle.numbers.specs.declared.common.Address.TheVariants.{Constant, Symbol}
@@ -6,9 +7,10 @@ use Rattle.assemble.specs.declared.call.Call.{Call}
 use Rattle.assemble.specs.declared.call.Call.TheVariants as call
 use Rattle.assemble.specs.declared.call.Order.{Order}
 use Rattle.assemble.specs.declared.call.Order.TheVariants as order
+use Rattle.assemble.specs.declared.verb.TheConstants.{VERBS}
 use Rattle.assemble.specs.declared.verb.Verb.{Verb}
 use Rattle.assemble.specs.declared.verb.Verb.TheVariants as verb
-use Rattle.assemble.specs.Texts.{number_of, signed_of, joined_of, bytes_named}
+use Rattle.texts.specs.Texts.{number_of, signed_of, joined_of, bytes_named}
 
 -- how each verb is written
 abbrev pub word_of : Verb → List ℕ
@@ -36,6 +38,33 @@ word_of verb.Reference = codes "reference"
 word_of verb.OpenLength = codes "open_length"
 word_of verb.FillLength = codes "fill_length"
 word_of verb.GiveUp = codes "give_up"
+
+-- each verb stands in the table
+pub each_verb_stands : (v : Verb) → Contains VERBS v
+each_verb_stands verb.Bytes = (0, lit< tt, refl)
+each_verb_stands verb.BytesAt = (1, lit< tt, refl)
+each_verb_stands verb.U8 = (2, lit< tt, refl)
+each_verb_stands verb.U16 = (3, lit< tt, refl)
+each_verb_stands verb.U32 = (4, lit< tt, refl)
+each_verb_stands verb.U64 = (5, lit< tt, refl)
+each_verb_stands verb.U128 = (6, lit< tt, refl)
+each_verb_stands verb.U8At = (7, lit< tt, refl)
+each_verb_stands verb.U16At = (8, lit< tt, refl)
+each_verb_stands verb.U32At = (9, lit< tt, refl)
+each_verb_stands verb.U64At = (10, lit< tt, refl)
+each_verb_stands verb.U128At = (11, lit< tt, refl)
+each_verb_stands verb.Udata = (12, lit< tt, refl)
+each_verb_stands verb.UdataAt = (13, lit< tt, refl)
+each_verb_stands verb.Uleb128 = (14, lit< tt, refl)
+each_verb_stands verb.Sleb128 = (15, lit< tt, refl)
+each_verb_stands verb.Address = (16, lit< tt, refl)
+each_verb_stands verb.AddressSymbol = (17, lit< tt, refl)
+each_verb_stands verb.Offset = (18, lit< tt, refl)
+each_verb_stands verb.OffsetAt = (19, lit< tt, refl)
+each_verb_stands verb.Reference = (20, lit< tt, refl)
+each_verb_stands verb.OpenLength = (21, lit< tt, refl)
+each_verb_stands verb.FillLength = (22, lit< tt, refl)
+each_verb_stands verb.GiveUp = (23, lit< tt, refl)
 
 abbrev pub address_verb : Address → Verb
 address_verb (Constant n) = verb.Address

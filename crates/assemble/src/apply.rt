@@ -4,9 +4,7 @@ ghost use Rattle.assemble.specs.Acts.{act_of};
 
 use super::call::Call;
 use writers::{
-    Fault, LinkWriter, write_sleb128, write_u8, write_u8_at, write_u16, write_u16_at, write_u32,
-    write_u32_at, write_u64, write_u64_at, write_u128, write_u128_at, write_udata, write_udata_at,
-    write_uleb128,
+    Fault, LinkWriter, write_leb128, write_number, write_number_at, write_udata, write_udata_at,
 };
 
 // Runs a call on a writer.
@@ -16,20 +14,20 @@ pub fn apply<L: LinkWriter>(w: &mut L, call: &Call) -> Result<(), Fault>
     match call {
         Call::Bytes(bytes) => w.write(bytes.as_slice()),
         Call::BytesAt(at, bytes) => w.write_at(*at, bytes.as_slice()),
-        Call::U8(n) => write_u8(w, *n),
-        Call::U16(n) => write_u16(w, *n),
-        Call::U32(n) => write_u32(w, *n),
-        Call::U64(n) => write_u64(w, *n),
-        Call::U128(n) => write_u128(w, *n),
-        Call::U8At(at, n) => write_u8_at(w, *at, *n),
-        Call::U16At(at, n) => write_u16_at(w, *at, *n),
-        Call::U32At(at, n) => write_u32_at(w, *at, *n),
-        Call::U64At(at, n) => write_u64_at(w, *at, *n),
-        Call::U128At(at, n) => write_u128_at(w, *at, *n),
+        Call::U8(n) => write_number(w, *n),
+        Call::U16(n) => write_number(w, *n),
+        Call::U32(n) => write_number(w, *n),
+        Call::U64(n) => write_number(w, *n),
+        Call::U128(n) => write_number(w, *n),
+        Call::U8At(at, n) => write_number_at(w, *at, *n),
+        Call::U16At(at, n) => write_number_at(w, *at, *n),
+        Call::U32At(at, n) => write_number_at(w, *at, *n),
+        Call::U64At(at, n) => write_number_at(w, *at, *n),
+        Call::U128At(at, n) => write_number_at(w, *at, *n),
         Call::Udata(n, size) => write_udata(w, *n, *size),
         Call::UdataAt(at, n, size) => write_udata_at(w, *at, *n, *size),
-        Call::Uleb128(n) => write_uleb128(w, *n),
-        Call::Sleb128(n) => write_sleb128(w, *n),
+        Call::Uleb128(n) => write_leb128(w, *n),
+        Call::Sleb128(n) => write_leb128(w, *n),
         Call::Address(address, size) => w.write_address(*address, *size),
         Call::Offset(n, section, size) => w.write_offset(*n, *section, *size),
         Call::OffsetAt(at, n, section, size) => w.write_offset_at(*at, *n, *section, *size),

@@ -2,7 +2,7 @@ use numbers::{Address, Format, RunTimeEndian, SectionId};
 use std::fmt;
 
 // A call on a section's writer. Opened lengths stand apart: they make and spend tokens.
-#[derive(Drop)]
+#[derive(Debug, PartialEq, Eq, Drop)]
 pub enum Call {
     Bytes(Vec<u8>),
     BytesAt(usize, Vec<u8>),
@@ -27,7 +27,7 @@ pub enum Call {
 }
 
 // What a line asks of the section that it stands in.
-#[derive(Drop)]
+#[derive(Debug, PartialEq, Eq, Drop)]
 pub enum Order {
     Run(Call),
     OpenLength(Format),
@@ -36,14 +36,14 @@ pub enum Order {
 }
 
 // The writer at the bottom of a pile.
-#[derive(Clone, Copy)]
+#[derive(Clone, Copy, Debug, PartialEq, Eq, Hash)]
 pub enum Base {
     Slice(usize, RunTimeEndian),
     Page(RunTimeEndian),
 }
 
-// The layers over it, the innermost named first.
-#[derive(Clone, Copy)]
+// The layers over it, the innermost named first. A layer holds the writer below by value, so each pile is a type.
+#[derive(Clone, Copy, Debug, PartialEq, Eq, Hash)]
 pub enum Layers {
     Plain,
     Relocating,
@@ -53,31 +53,17 @@ pub enum Layers {
 }
 
 // A writer under layers.
-#[derive(Clone, Copy)]
+#[derive(Clone, Copy, Debug, PartialEq, Eq, Hash)]
 pub struct Pile {
     pub base: Base,
     pub layers: Layers,
 }
 
-// The word for a byte order.
-fn order_word(endian: RunTimeEndian) -> &'static str {
-    match endian {
-        RunTimeEndian::Little => "little",
-        RunTimeEndian::Big => "big",
-    }
-}
-
 impl fmt::Display for Base {
     fn fmt<W: fmt::Write>(&self, f: &mut fmt::Formatter<W>) -> fmt::Result {
         match *self {
-            Base::Slice(size, endian) => {
-                let order = order_word(endian);
-                write!(f, "slice {size} {order}")
-            }
-            Base::Page(endian) => {
-                let order = order_word(endian);
-                write!(f, "page {order}")
-            }
+            Base::Slice(size, endian) => write!(f, "slice {size} {endian}"),
+            Base::Page(endian) => write!(f, "page {endian}"),
         }
     }
 }

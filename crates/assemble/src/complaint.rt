@@ -1,17 +1,16 @@
 ghost use Rattle.std.specs.Prelude.{◌≡◌};
-ghost use Rattle.assemble.specs.declared.complaint.Complaint.TheVariants.{NoMemory};
+ghost use Rattle.assemble.specs.declared.complaint.Complaint.TheVariants.{NoMemory, Word};
 
-use std::alloc::{AllocError, AllocFailed};
+use std::alloc::AllocError;
 use std::fmt;
+use texts::BadWord;
 
 // What is wrong with a line.
-#[derive(Clone, Copy)]
+#[derive(Clone, Copy, Debug, PartialEq, Eq, Hash)]
 pub enum Complaint {
     UnknownWord,
     WordCount,
-    BadNumber,
-    OutOfRange,
-    BadBytes,
+    Word(BadWord),
     UnknownSection,
     BadPile,
     TooMuchMemory,
@@ -24,9 +23,7 @@ impl fmt::Display for Complaint {
         f.write_str(match *self {
             Complaint::UnknownWord => "unknown word",
             Complaint::WordCount => "a missing or an extra token",
-            Complaint::BadNumber => "not a number of at most 64 bits",
-            Complaint::OutOfRange => "number out of range",
-            Complaint::BadBytes => "not pairs of lower-case hex digits",
+            Complaint::Word(word) => word.text(),
             Complaint::UnknownSection => "unknown section",
             Complaint::BadPile => "unknown pile",
             Complaint::TooMuchMemory => "more than 65536 bytes of memory",
@@ -36,18 +33,18 @@ impl fmt::Display for Complaint {
     }
 }
 
+impl From<BadWord> for Complaint {
+    ghost from_gives = { λ e r. r ≡ Word e };
+
+    fn from(e: BadWord) -> Complaint {
+        Complaint::Word(e)
+    }
+}
+
 impl From<AllocError> for Complaint {
     ghost from_gives = { λ _ r. r ≡ NoMemory };
 
     fn from(_e: AllocError) -> Complaint {
-        Complaint::NoMemory
-    }
-}
-
-impl<T: Drop> From<AllocFailed<T>> for Complaint {
-    ghost from_gives = { λ _ r. r ≡ NoMemory };
-
-    fn from(_e: AllocFailed<T>) -> Complaint {
         Complaint::NoMemory
     }
 }

@@ -1,143 +1,38 @@
-ghost use Rattle.std.specs.Prelude.{◌≡◌, ◌≤◌, [], ◌∷◌, IfOk, Some, None, MatchResult};
-ghost use Rattle.numbers.specs.Common.{section_name};
-ghost use Rattle.assemble.specs.declared.verb.Verb.TheVariants.{OpenLength, FillLength, GiveUp};
-ghost use Rattle.assemble.specs.Texts.{number_of, signed_of, joined_of};
+ghost use Rattle.std.specs.Prelude.{◌≡◌, ◌≢◌, ◌≤◌, [], ◌∷◌, IfOk, MatchResult, Some};
+ghost use Rattle.numbers.specs.Common.{format_name, section_name};
+ghost use Rattle.numbers.specs.Orders.{order_name};
+ghost use Rattle.assemble.specs.declared.complaint.Complaint.TheVariants.{UnknownSection};
+ghost use Rattle.texts.specs.Texts.{number_of};
 ghost use Rattle.assemble.specs.Verbs.{word_of, call_verb, order_verb, CallFrom};
 
 use super::call::{Base, Call, Layers, Order, Pile};
 use super::complaint::Complaint;
-use super::digits::{hex_bytes, number, signed};
 use super::line::Line;
-use super::verb::{Verb, verb_named};
+use super::verb::Verb;
 use numbers::{Address, Format, RunTimeEndian, SectionId};
 use std::alloc::Global;
+use texts::{BadWord, bytes, joined, named, number, whole};
 
 // The most memory of a slice.
 const MOST: usize = 65536;
 
-const SECTIONS: [SectionId; 25] = [
-    SectionId::DebugAbbrev,
-    SectionId::DebugAddr,
-    SectionId::DebugAranges,
-    SectionId::DebugCuIndex,
-    SectionId::DebugFrame,
-    SectionId::EhFrame,
-    SectionId::EhFrameHdr,
-    SectionId::DebugGnuPubNames,
-    SectionId::DebugGnuPubTypes,
-    SectionId::DebugInfo,
-    SectionId::DebugLine,
-    SectionId::DebugLineStr,
-    SectionId::DebugLoc,
-    SectionId::DebugLocLists,
-    SectionId::DebugMacinfo,
-    SectionId::DebugMacro,
-    SectionId::DebugNames,
-    SectionId::DebugPubNames,
-    SectionId::DebugPubTypes,
-    SectionId::DebugRanges,
-    SectionId::DebugRngLists,
-    SectionId::DebugStr,
-    SectionId::DebugStrOffsets,
-    SectionId::DebugTuIndex,
-    SectionId::DebugTypes,
-];
-
 // A section by its name.
-fn section_named(name: &str) -> Result<SectionId, Complaint>
-    ensures { IfOk result (λ x. section_name x ≡ name.now) }
+fn section(name: &str) -> Result<SectionId, Complaint>
+    ensures { MatchResult result (λ x. section_name x ≡ name.now) (λ e. (e ≡ UnknownSection) × ((x : _) → section_name x ≢ name.now)) }
 {
-    for id in SECTIONS {
-        if id.name() == name {
-            return Ok(id);
-        }
-    }
-    Err(Complaint::UnknownSection)
+    name.parse().or(Err(Complaint::UnknownSection))
 }
 
-// A number of 64 bits.
-fn wide(text: &str) -> Result<u64, Complaint>
-    ensures { MatchResult result (λ n. number_of text.now ≡ Some n) (λ _. number_of text.now ≡ None) }
+fn format(text: &str) -> Result<Format, Complaint>
+    ensures { IfOk result (λ x. format_name x ≡ text.now) }
 {
-    match number(text.as_bytes()) {
-        Some(n) => Ok(n),
-        None => Err(Complaint::BadNumber),
-    }
+    text.parse().or(Err(Complaint::Word(BadWord::OutOfRange)))
 }
 
-// An offset, a size of memory, a symbol or the number of an opened length.
-fn index(text: &str) -> Result<usize, Complaint>
-    ensures { MatchResult result (λ n. number_of text.now ≡ Some n) (λ _. number_of text.now ≡ None) }
+fn endian(text: &str) -> Result<RunTimeEndian, Complaint>
+    ensures { IfOk result (λ x. order_name x ≡ text.now) }
 {
-    Ok(wide(text)? as usize)
-}
-
-// A number of 8 bits.
-fn byte(text: &str) -> Result<u8, Complaint>
-    ensures { IfOk result (λ n. number_of text.now ≡ Some n) }
-{
-    let n = wide(text)?;
-    if n > 0xff {
-        return Err(Complaint::OutOfRange);
-    }
-    Ok(n as u8)
-}
-
-// A number of 16 bits.
-fn short(text: &str) -> Result<u16, Complaint>
-    ensures { IfOk result (λ n. number_of text.now ≡ Some n) }
-{
-    let n = wide(text)?;
-    if n > 0xffff {
-        return Err(Complaint::OutOfRange);
-    }
-    Ok(n as u16)
-}
-
-// A number of 32 bits.
-fn half(text: &str) -> Result<u32, Complaint>
-    ensures { IfOk result (λ n. number_of text.now ≡ Some n) }
-{
-    let n = wide(text)?;
-    if n > 0xffff_ffff {
-        return Err(Complaint::OutOfRange);
-    }
-    Ok(n as u32)
-}
-
-// A number of 128 bits, by its two halves.
-fn joined(high: &str, low: &str) -> Result<u128, Complaint>
-    ensures { IfOk result (λ n. joined_of high.now low.now ≡ Some n) }
-{
-    let high = wide(high)?;
-    let low = wide(low)?;
-    Ok(high as u128 * 0x1_0000_0000_0000_0000 + low as u128)
-}
-
-// A number of 64 bits with a sign.
-fn whole(text: &str) -> Result<i64, Complaint>
-    ensures { IfOk result (λ n. signed_of text.now ≡ Some n) }
-{
-    match signed(text.as_bytes()) {
-        Some(n) => Ok(n),
-        None => Err(Complaint::BadNumber),
-    }
-}
-
-fn format(text: &str) -> Result<Format, Complaint> {
-    match text {
-        "32" => Ok(Format::Dwarf32),
-        "64" => Ok(Format::Dwarf64),
-        _ => Err(Complaint::OutOfRange),
-    }
-}
-
-fn endian(text: &str) -> Result<RunTimeEndian, Complaint> {
-    match text {
-        "little" => Ok(RunTimeEndian::Little),
-        "big" => Ok(RunTimeEndian::Big),
-        _ => Err(Complaint::BadPile),
-    }
+    text.parse().or(Err(Complaint::BadPile))
 }
 
 // A call of one argument.
@@ -146,12 +41,12 @@ fn one_argument(heap: Global, verb: Verb, a: &str) -> Result<Call, Complaint>
     ensures reads { IfOk result (λ x. CallFrom x (a.now ∷ [])) }
 {
     match verb {
-        Verb::Bytes => Ok(Call::Bytes(hex_bytes(heap, a.as_bytes())?)),
-        Verb::U8 => Ok(Call::U8(byte(a)?)),
-        Verb::U16 => Ok(Call::U16(short(a)?)),
-        Verb::U32 => Ok(Call::U32(half(a)?)),
-        Verb::U64 => Ok(Call::U64(wide(a)?)),
-        Verb::Uleb128 => Ok(Call::Uleb128(wide(a)?)),
+        Verb::Bytes => Ok(Call::Bytes(bytes(heap, a)?)),
+        Verb::U8 => Ok(Call::U8(number(a)?)),
+        Verb::U16 => Ok(Call::U16(number(a)?)),
+        Verb::U32 => Ok(Call::U32(number(a)?)),
+        Verb::U64 => Ok(Call::U64(number(a)?)),
+        Verb::Uleb128 => Ok(Call::Uleb128(number(a)?)),
         Verb::Sleb128 => Ok(Call::Sleb128(whole(a)?)),
         _ => Err(Complaint::WordCount),
     }
@@ -162,13 +57,13 @@ fn place_and_one(heap: Global, verb: Verb, at: &str, a: &str) -> Result<Call, Co
     ensures named { IfOk result (λ x. call_verb x ≡ verb) }
     ensures reads { IfOk result (λ x. CallFrom x (at.now ∷ a.now ∷ [])) }
 {
-    let place = index(at)?;
+    let place = number(at)?;
     match verb {
-        Verb::BytesAt => Ok(Call::BytesAt(place, hex_bytes(heap, a.as_bytes())?)),
-        Verb::U8At => Ok(Call::U8At(place, byte(a)?)),
-        Verb::U16At => Ok(Call::U16At(place, short(a)?)),
-        Verb::U32At => Ok(Call::U32At(place, half(a)?)),
-        Verb::U64At => Ok(Call::U64At(place, wide(a)?)),
+        Verb::BytesAt => Ok(Call::BytesAt(place, bytes(heap, a)?)),
+        Verb::U8At => Ok(Call::U8At(place, number(a)?)),
+        Verb::U16At => Ok(Call::U16At(place, number(a)?)),
+        Verb::U32At => Ok(Call::U32At(place, number(a)?)),
+        Verb::U64At => Ok(Call::U64At(place, number(a)?)),
         _ => Err(Complaint::WordCount),
     }
 }
@@ -180,9 +75,9 @@ fn two_arguments(heap: Global, verb: Verb, a: &str, b: &str) -> Result<Call, Com
 {
     match verb {
         Verb::U128 => Ok(Call::U128(joined(a, b)?)),
-        Verb::Udata => Ok(Call::Udata(wide(a)?, byte(b)?)),
-        Verb::Address => Ok(Call::Address(Address::Constant(wide(a)?), byte(b)?)),
-        Verb::Reference => Ok(Call::Reference(index(a)?, byte(b)?)),
+        Verb::Udata => Ok(Call::Udata(number(a)?, number(b)?)),
+        Verb::Address => Ok(Call::Address(Address::Constant(number(a)?), number(b)?)),
+        Verb::Reference => Ok(Call::Reference(number(a)?, number(b)?)),
         _ => place_and_one(heap, verb, a, b),
     }
 }
@@ -192,42 +87,33 @@ fn three_arguments(verb: Verb, a: &str, b: &str, c: &str) -> Result<Call, Compla
     ensures named { IfOk result (λ x. call_verb x ≡ verb) }
     ensures reads { IfOk result (λ x. CallFrom x (a.now ∷ b.now ∷ c.now ∷ [])) }
 {
-    let first = index(a)?;
+    let first = number(a)?;
     match verb {
         Verb::U128At => Ok(Call::U128At(first, joined(b, c)?)),
-        Verb::UdataAt => Ok(Call::UdataAt(first, wide(b)?, byte(c)?)),
-        Verb::AddressSymbol => {
-            let addend = whole(b)?;
-            Ok(Call::Address(
-                Address::Symbol {
-                    symbol: first,
-                    addend,
-                },
-                byte(c)?,
-            ))
-        }
-        Verb::Offset => Ok(Call::Offset(first, section_named(b)?, byte(c)?)),
+        Verb::UdataAt => Ok(Call::UdataAt(first, number(b)?, number(c)?)),
+        Verb::AddressSymbol => Ok(Call::Address(
+            Address::Symbol {
+                symbol: first,
+                addend: whole(b)?,
+            },
+            number(c)?,
+        )),
+        Verb::Offset => Ok(Call::Offset(first, section(b)?, number(c)?)),
         _ => Err(Complaint::WordCount),
     }
 }
 
 // A call of four arguments.
-fn four_arguments(
-    verb: Verb,
-    at: &str,
-    n: &str,
-    section: &str,
-    size: &str,
-) -> Result<Call, Complaint>
+fn four_arguments(verb: Verb, at: &str, n: &str, name: &str, size: &str) -> Result<Call, Complaint>
     ensures named { IfOk result (λ x. call_verb x ≡ verb) }
-    ensures reads { IfOk result (λ x. CallFrom x (at.now ∷ n.now ∷ section.now ∷ size.now ∷ [])) }
+    ensures reads { IfOk result (λ x. CallFrom x (at.now ∷ n.now ∷ name.now ∷ size.now ∷ [])) }
 {
     match verb {
         Verb::OffsetAt => Ok(Call::OffsetAt(
-            index(at)?,
-            index(n)?,
-            section_named(section)?,
-            byte(size)?,
+            number(at)?,
+            number(n)?,
+            section(name)?,
+            number(size)?,
         )),
         _ => Err(Complaint::WordCount),
     }
@@ -245,40 +131,14 @@ fn call(heap: Global, verb: Verb, words: &[&str]) -> Result<Call, Complaint>
     }
 }
 
-fn open_order(words: &[&str]) -> Result<Order, Complaint>
-    ensures { IfOk result (λ o. order_verb o ≡ OpenLength) }
-{
-    match words {
-        [bits] => Ok(Order::OpenLength(format(bits)?)),
-        _ => Err(Complaint::WordCount),
-    }
-}
-
-fn fill_order(words: &[&str]) -> Result<Order, Complaint>
-    ensures { IfOk result (λ o. order_verb o ≡ FillLength) }
-{
-    match words {
-        [i, n] => Ok(Order::FillLength(index(i)?, wide(n)?)),
-        _ => Err(Complaint::WordCount),
-    }
-}
-
-fn give_up_order(words: &[&str]) -> Result<Order, Complaint>
-    ensures { IfOk result (λ o. order_verb o ≡ GiveUp) }
-{
-    match words {
-        [i] => Ok(Order::GiveUp(index(i)?)),
-        _ => Err(Complaint::WordCount),
-    }
-}
-
 fn verb_order(heap: Global, verb: Verb, words: &[&str]) -> Result<Order, Complaint>
     ensures { IfOk result (λ o. order_verb o ≡ verb) }
 {
-    match verb {
-        Verb::OpenLength => open_order(words),
-        Verb::FillLength => fill_order(words),
-        Verb::GiveUp => give_up_order(words),
+    match (verb, words) {
+        (Verb::OpenLength, [bits]) => Ok(Order::OpenLength(format(bits)?)),
+        (Verb::FillLength, [i, n]) => Ok(Order::FillLength(number(i)?, number(n)?)),
+        (Verb::GiveUp, [i]) => Ok(Order::GiveUp(number(i)?)),
+        (Verb::OpenLength | Verb::FillLength | Verb::GiveUp, _) => Err(Complaint::WordCount),
         _ => Ok(Order::Run(call(heap, verb, words)?)),
     }
 }
@@ -287,9 +147,7 @@ fn verb_order(heap: Global, verb: Verb, words: &[&str]) -> Result<Order, Complai
 fn order(heap: Global, name: &str, words: &[&str]) -> Result<Order, Complaint>
     ensures { IfOk result (λ o. word_of (order_verb o) ≡ name.now) }
 {
-    let Some(verb) = verb_named(name) else {
-        return Err(Complaint::UnknownWord);
-    };
+    let verb = named(name).ok_or(Complaint::UnknownWord)?;
     verb_order(heap, verb, words)
 }
 
@@ -297,7 +155,7 @@ fn order(heap: Global, name: &str, words: &[&str]) -> Result<Order, Complaint>
 fn memory_size(text: &str) -> Result<usize, Complaint>
     ensures { IfOk result (λ n. (number_of text.now ≡ Some n) × (n ≤ 65536)) }
 {
-    let n = index(text)?;
+    let n = number(text)?;
     if n > MOST {
         return Err(Complaint::TooMuchMemory);
     }
@@ -308,52 +166,35 @@ fn layers(words: &[&str]) -> Result<Layers, Complaint> {
     match words {
         [] => Ok(Layers::Plain),
         ["relocating"] => Ok(Layers::Relocating),
-        ["quota", limit] => Ok(Layers::Quota(index(limit)?)),
-        ["relocating", "quota", limit] => Ok(Layers::RelocatingQuota(index(limit)?)),
-        ["quota", limit, "relocating"] => Ok(Layers::QuotaRelocating(index(limit)?)),
+        ["quota", limit] => Ok(Layers::Quota(number(limit)?)),
+        ["relocating", "quota", limit] => Ok(Layers::RelocatingQuota(number(limit)?)),
+        ["quota", limit, "relocating"] => Ok(Layers::QuotaRelocating(number(limit)?)),
         _ => Err(Complaint::BadPile),
     }
 }
 
 fn pile(words: &[&str]) -> Result<Pile, Complaint> {
-    match words {
-        ["pile", "slice", size, order, above @ ..] => {
-            let base = Base::Slice(memory_size(size)?, endian(order)?);
-            Ok(Pile {
-                base,
-                layers: layers(above)?,
-            })
-        }
-        ["pile", "page", order, above @ ..] => {
-            let base = Base::Page(endian(order)?);
-            Ok(Pile {
-                base,
-                layers: layers(above)?,
-            })
-        }
-        _ => Err(Complaint::BadPile),
-    }
+    let (base, above) = match words {
+        ["slice", size, order, above @ ..] => (
+            Base::Slice(memory_size(size)?, endian(order)?),
+            above,
+        ),
+        ["page", order, above @ ..] => (Base::Page(endian(order)?), above),
+        _ => return Err(Complaint::BadPile),
+    };
+    Ok(Pile {
+        base,
+        layers: layers(above)?,
+    })
 }
 
 // What a line says.
-fn said(heap: Global, text: &str) -> Result<Line, Complaint> {
+pub fn read_line(heap: Global, text: &str) -> Result<Line, Complaint> {
     let words: Vec<&str> = text.split_whitespace().collect(heap)?;
-    let Some(name) = words.first() else {
-        return Ok(Line::Empty);
-    };
-    if name.starts_with('#') {
-        return Ok(Line::Empty);
-    }
-    if *name == "pile" {
-        return Ok(Line::Pile(pile(words.as_slice())?));
-    }
-    Ok(Line::Order(order(heap, name, &words.as_slice()[1..])?))
-}
-
-// The same, with what is wrong as a line of its own.
-pub fn line(heap: Global, text: &str) -> Line {
-    match said(heap, text) {
-        Ok(line) => line,
-        Err(complaint) => Line::Bad(complaint),
+    match words.as_slice() {
+        [] => Ok(Line::Empty),
+        ["pile", words @ ..] => Ok(Line::Pile(pile(words)?)),
+        [name, ..] if name.starts_with('#') => Ok(Line::Empty),
+        [name, words @ ..] => Ok(Line::Order(order(heap, name, words)?)),
     }
 }

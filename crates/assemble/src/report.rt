@@ -1,9 +1,9 @@
 ghost use Rattle.std.specs.Prelude.{◌≡◌, ◌-◌, if◌then◌else◌};
 
+use super::bench::Bench;
 use super::call::Pile;
-use super::slot::Slot;
-use std::{fmt, io};
-use writers::{Contents, LinkWriter, Note, Target};
+use std::io;
+use writers::{Contents, InitialLengthOffset, LinkWriter, Note};
 
 // How many notes are left to a writer that has used some.
 fn notes_left(relocates: bool, used: usize) -> usize
@@ -13,19 +13,6 @@ fn notes_left(relocates: bool, used: usize) -> usize
         512usize.saturating_sub(used)
     } else {
         0
-    }
-}
-
-// What a note is relative to.
-#[derive(Clone, Copy)]
-struct Named(Target);
-
-impl fmt::Display for Named {
-    fn fmt<W: fmt::Write>(&self, f: &mut fmt::Formatter<W>) -> fmt::Result {
-        match self.0 {
-            Target::Section(section) => f.write_str(section.name()),
-            Target::Symbol(symbol) => write!(f, "symbol {symbol}"),
-        }
     }
 }
 
@@ -47,20 +34,22 @@ fn print_notes(rt: &HostRuntime, notes: &[Note]) -> io::Result<()> {
         return println!(rt; "no notes");
     }
     println!(rt; "   place  size  target                addend")?;
-    for note in notes {
-        let place = note.place;
-        let size = note.size;
-        let addend = note.addend;
-        let target = Named(note.target).to_string(rt.alloc())?;
+    for Note {
+        place,
+        size,
+        target,
+        addend,
+    } in notes {
+        let target = target.to_string(rt.alloc())?;
         println!(rt; "{place:>8}  {size:>4}  {target:<20}  {addend}")?;
     }
     Ok(())
 }
 
 // The lengths that are still open.
-fn print_open(rt: &HostRuntime, slots: &[Slot]) -> io::Result<()> {
-    for (i, slot) in slots.iter().enumerate() {
-        if let Slot::Open(token) = slot {
+fn print_open(rt: &HostRuntime, lengths: &[Option<InitialLengthOffset>]) -> io::Result<()> {
+    for (i, length) in lengths.iter().enumerate() {
+        if let Some(token) = length {
             let place = token.offset();
             println!(rt; "length {i} at {place} was still open: given up")?;
         }
@@ -72,20 +61,15 @@ fn print_open(rt: &HostRuntime, slots: &[Slot]) -> io::Result<()> {
 pub fn report<L: LinkWriter + Contents>(
     rt: &HostRuntime,
     pile: Pile,
-    w: &L,
-    slots: &[Slot],
+    bench: &Bench<L>,
 ) -> io::Result<()> {
-    let base = pile.base;
-    let layers = pile.layers;
-    let length = w.len();
-    let left = w.left();
-    println!(rt; "section: pile {base}{layers}")?;
-    print_open(rt, slots)?;
-    println!(rt; "length {length}, left {left}")?;
+    let w = &bench.writer;
+    println!(rt; "section: pile {}{}", pile.base, pile.layers)?;
+    print_open(rt, bench.lengths.as_slice())?;
+    println!(rt; "length {}, left {}", w.len(), w.left())?;
     print_bytes(rt, w.bytes())?;
     let notes = w.notes();
     print_notes(rt, notes)?;
-    let spare = notes_left(w.is_relocating(), notes.len());
-    println!(rt; "notes left {spare}")?;
+    println!(rt; "notes left {}", notes_left(w.is_relocating(), notes.len()))?;
     println!(rt; "")
 }

@@ -1,61 +1,59 @@
-ghost use Rattle.std.specs.Prelude.{◌≡◌, ◌≤◌, length, OnOk};
-ghost use Rattle.assemble.specs.Orders.{line_done, lines_done};
+ghost use Rattle.std.specs.Prelude.{◌≡◌, OnOk};
+ghost use Rattle.sections.specs.Section.{Section};
+ghost use Rattle.assemble.specs.Orders.{state_of, line_done, lines_done};
 
-use super::answer::Answer;
+use super::answer::{Answer, Refusal};
+use super::bench::Bench;
 use super::call::{Base, Layers, Pile};
 use super::complaint::Complaint;
-use super::lengths::give_up_all;
 use super::line::{Entry, Line};
-use super::perform::perform;
 use super::report::report;
-use super::slot::Slot;
 use numbers::{BigEndian, LittleEndian, RunTimeEndian};
 use std::io;
-use writers::{Contents, LinkWriter, PageWriter, Quota, Relocating, SliceWriter, Writer};
+use writers::{Contents, LinkWriter, PageWriter, Quota, Relocating, SliceWriter};
 
 fn print_bad(rt: &HostRuntime, number: usize, complaint: Complaint) -> io::Result<()> {
     println!(rt; "{number}: bad line: {complaint}")
 }
 
 // An answer, and the section's length where something was done.
-fn print_answer(rt: &HostRuntime, number: usize, answer: Answer, length: usize) -> io::Result<()> {
+fn print_answer(
+    rt: &HostRuntime,
+    number: usize,
+    answer: Result<Answer, Refusal>,
+    length: usize,
+) -> io::Result<()> {
     match answer {
-        Answer::Refused(_) | Answer::NotOpen => println!(rt; "{number}: {answer}"),
-        _ => println!(rt; "{number}: {answer}, length {length}"),
+        Ok(answer) => println!(rt; "{number}: {answer}, length {length}"),
+        Err(refusal) => println!(rt; "{number}: {refusal}"),
     }
 }
 
 // Carries a line out, and prints the answer.
-fn run_entry<L: LinkWriter>(
-    rt: &HostRuntime,
-    w: &mut L,
-    slots: &mut Vec<Slot>,
-    entry: &Entry,
-) -> io::Result<()>
-    ensures { OnOk result (line_done L.LinkWriter.relocates entry.now.line (L.Writer.meaning w.old, slots.old.items) ≡ (L.Writer.meaning w.new, slots.new.items)) }
+fn run_entry<L: LinkWriter>(rt: &HostRuntime, bench: &mut Bench<L>, entry: &Entry) -> io::Result<()>
+    ensures { OnOk result (line_done L.LinkWriter.relocates entry.now.line (state_of L.Writer.meaning bench.old) ≡ state_of L.Writer.meaning bench.new) }
 {
     match &entry.line {
-        Line::Order(order) => {
-            slots.reserve(1)?;
-            let answer = perform(w, slots, order);
-            print_answer(rt, entry.number, answer, w.len())
+        Ok(Line::Order(order)) => {
+            bench.lengths.reserve(1)?;
+            let answer = bench.perform(order);
+            print_answer(rt, entry.number, answer, bench.writer.len())
         }
-        Line::Bad(complaint) => print_bad(rt, entry.number, *complaint),
-        Line::Empty | Line::Pile(_) => Ok(()),
+        Ok(Line::Empty | Line::Pile(_)) => Ok(()),
+        Err(complaint) => print_bad(rt, entry.number, *complaint),
     }
 }
 
 // Carries the lines of a section out, one after the other.
 fn run_entries<L: LinkWriter>(
     rt: &HostRuntime,
-    w: &mut L,
-    slots: &mut Vec<Slot>,
+    bench: &mut Bench<L>,
     entries: &[Entry],
 ) -> io::Result<()>
-    ensures { OnOk result (lines_done L.LinkWriter.relocates entries.now (L.Writer.meaning w.old, slots.old.items) ≡ (L.Writer.meaning w.new, slots.new.items)) }
+    ensures { OnOk result (lines_done L.LinkWriter.relocates entries.now (state_of L.Writer.meaning bench.old) ≡ state_of L.Writer.meaning bench.new) }
 {
     for entry in entries {
-        run_entry(rt, w, slots, entry)?;
+        run_entry(rt, bench, entry)?;
     }
     Ok(())
 }
@@ -63,26 +61,25 @@ fn run_entries<L: LinkWriter>(
 fn run_and_report<L: LinkWriter + Contents>(
     rt: &HostRuntime,
     pile: Pile,
-    w: &mut L,
-    slots: &mut Vec<Slot>,
+    bench: &mut Bench<L>,
     entries: &[Entry],
 ) -> io::Result<()>
-    ensures { OnOk result (lines_done L.LinkWriter.relocates entries.now (L.Writer.meaning w.old, slots.old.items) ≡ (L.Writer.meaning w.new, slots.new.items)) }
+    ensures { OnOk result (lines_done L.LinkWriter.relocates entries.now (state_of L.Writer.meaning bench.old) ≡ state_of L.Writer.meaning bench.new) }
 {
-    run_entries(rt, w, slots, entries)?;
-    report(rt, pile, w, slots.as_slice())
+    run_entries(rt, bench, entries)?;
+    report(rt, pile, bench)
 }
 
 // A section from its first call to its report.
 fn run_section<L: LinkWriter + Contents + Drop>(
     rt: &HostRuntime,
     pile: Pile,
-    mut w: L,
+    writer: L,
     entries: &[Entry],
 ) -> io::Result<()> {
-    let mut slots = Vec::new(rt.alloc());
-    let done = run_and_report(rt, pile, &mut w, &mut slots, entries);
-    give_up_all(slots);
+    let mut bench = Bench::new(rt.alloc(), writer);
+    let done = run_and_report(rt, pile, &mut bench, entries);
+    bench.finish();
     done
 }
 
@@ -132,39 +129,30 @@ fn run_pile(rt: &HostRuntime, pile: Pile, entries: &[Entry]) -> io::Result<()> {
     }
 }
 
-// The place of the next pile, or the end.
-fn next_pile(entries: &[Entry], from: usize) -> usize
-    requires { from ≤ length entries.now }
-    ensures { (from ≤ result) × (result ≤ length entries.now) }
-{
-    for i in from..entries.len() {
-        if let Line::Pile(_) = &entries[i].line {
-            return i;
-        }
-    }
-    entries.len()
-}
-
 // The lines before any pile.
 fn run_unpiled(rt: &HostRuntime, entries: &[Entry]) -> io::Result<()> {
     for entry in entries {
         match &entry.line {
-            Line::Order(_) => print_bad(rt, entry.number, Complaint::NoPile)?,
-            Line::Bad(complaint) => print_bad(rt, entry.number, *complaint)?,
-            Line::Empty | Line::Pile(_) => {}
+            Ok(Line::Order(_)) => print_bad(rt, entry.number, Complaint::NoPile)?,
+            Ok(Line::Empty | Line::Pile(_)) => {}
+            Err(complaint) => print_bad(rt, entry.number, *complaint)?,
         }
     }
     Ok(())
 }
 
-// Runs a whole script, section by section.
+// Runs a whole script, section by section: a pile begins one.
 pub fn run_script(rt: &HostRuntime, entries: &[Entry]) -> io::Result<()> {
-    let first = next_pile(entries, 0);
-    run_unpiled(rt, &entries[0..first])?;
-    for (i, entry) in entries.iter().enumerate() {
-        if let Line::Pile(pile) = &entry.line {
-            let to = next_pile(entries, i + 1);
-            run_pile(rt, *pile, &entries[i + 1..to])?;
+    for section in entries.chunk_by(|_, next| !matches!(next.line, Ok(Line::Pile(_)))) {
+        match section {
+            [
+                Entry {
+                    line: Ok(Line::Pile(pile)),
+                    ..
+                },
+                calls @ ..,
+            ] => run_pile(rt, *pile, calls)?,
+            _ => run_unpiled(rt, section)?,
         }
     }
     Ok(())

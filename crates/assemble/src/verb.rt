@@ -1,8 +1,11 @@
-ghost use Rattle.std.specs.Prelude.{◌≡◌, IfSome};
-ghost use Rattle.assemble.specs.Verbs.{word_of};
+ghost use Rattle.std.specs.Prelude.{◌≡◌};
+ghost use Rattle.assemble.specs.declared.verb.TheConstants.{VERBS};
+ghost use Rattle.assemble.specs.Verbs.{word_of, each_verb_stands};
+
+use texts::Word;
 
 // The word that says what a line of a section asks.
-#[derive(Clone, Copy)]
+#[derive(Clone, Copy, Debug, PartialEq, Eq)]
 pub enum Verb {
     Bytes,
     BytesAt,
@@ -28,40 +31,6 @@ pub enum Verb {
     OpenLength,
     FillLength,
     GiveUp,
-}
-
-impl Verb {
-    // How the verb is written.
-    fn word(self) -> &'static str
-        ensures { result.now ≡ word_of self }
-    {
-        match self {
-            Verb::Bytes => "bytes",
-            Verb::BytesAt => "bytes_at",
-            Verb::U8 => "u8",
-            Verb::U16 => "u16",
-            Verb::U32 => "u32",
-            Verb::U64 => "u64",
-            Verb::U128 => "u128",
-            Verb::U8At => "u8_at",
-            Verb::U16At => "u16_at",
-            Verb::U32At => "u32_at",
-            Verb::U64At => "u64_at",
-            Verb::U128At => "u128_at",
-            Verb::Udata => "udata",
-            Verb::UdataAt => "udata_at",
-            Verb::Uleb128 => "uleb128",
-            Verb::Sleb128 => "sleb128",
-            Verb::Address => "address",
-            Verb::AddressSymbol => "address_symbol",
-            Verb::Offset => "offset",
-            Verb::OffsetAt => "offset_at",
-            Verb::Reference => "reference",
-            Verb::OpenLength => "open_length",
-            Verb::FillLength => "fill_length",
-            Verb::GiveUp => "give_up",
-        }
-    }
 }
 
 const VERBS: [Verb; 24] = [
@@ -91,14 +60,43 @@ const VERBS: [Verb; 24] = [
     Verb::GiveUp,
 ];
 
-// The verb that a word says.
-pub fn verb_named(name: &str) -> Option<Verb>
-    ensures { IfSome result (λ v. word_of v ≡ name.now) }
-{
-    for verb in VERBS {
-        if verb.word() == name {
-            return Some(verb);
+impl Word for Verb {
+    ghost text = { word_of };
+
+    ghost all = { VERBS };
+
+    ghost complete = { each_verb_stands };
+
+    fn all() -> &'static [Verb] {
+        &VERBS
+    }
+
+    fn word(self) -> &'static str {
+        match self {
+            Verb::Bytes => "bytes",
+            Verb::BytesAt => "bytes_at",
+            Verb::U8 => "u8",
+            Verb::U16 => "u16",
+            Verb::U32 => "u32",
+            Verb::U64 => "u64",
+            Verb::U128 => "u128",
+            Verb::U8At => "u8_at",
+            Verb::U16At => "u16_at",
+            Verb::U32At => "u32_at",
+            Verb::U64At => "u64_at",
+            Verb::U128At => "u128_at",
+            Verb::Udata => "udata",
+            Verb::UdataAt => "udata_at",
+            Verb::Uleb128 => "uleb128",
+            Verb::Sleb128 => "sleb128",
+            Verb::Address => "address",
+            Verb::AddressSymbol => "address_symbol",
+            Verb::Offset => "offset",
+            Verb::OffsetAt => "offset_at",
+            Verb::Reference => "reference",
+            Verb::OpenLength => "open_length",
+            Verb::FillLength => "fill_length",
+            Verb::GiveUp => "give_up",
         }
     }
-    None
 }

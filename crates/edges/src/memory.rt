@@ -3,7 +3,7 @@ use crate::samples::{
     unit,
 };
 use std::test::Fail;
-use trees::{AttributeValue, EditFault, LineProgram, Span, UnitTable};
+use trees::{AttributeValue, EditFault, Left, Span, UnitTable};
 
 // One record of each kind: the first unit and its root take theirs, and there is none for more.
 #[test]
@@ -12,26 +12,26 @@ fn last_unit_and_last_entry(rt: HostRuntime) -> Result<(), Fail> {
     let mut entries = [ENTRY; 1];
     let mut attributes = [ATTRIBUTE; 1];
     let mut table = UnitTable::new(TABLE, &mut units, &mut entries, &mut attributes, b"axis");
-    let before = table.left();
-    assert!(rt; before.units == 1 && before.entries == 1 && before.attributes == 1);
-    assert!(rt; matches!(table.add(ENCODING, LineProgram::None), Ok(u) if u.unit == 0));
-    let after = table.left();
-    assert!(rt; after.units == 0 && after.entries == 0 && after.attributes == 1);
-    assert!(rt;
-        matches!(
-            table.add(ENCODING, LineProgram::None),
-            Err(EditFault::TableFull)
-        )
-    );
-    assert!(rt;
-        matches!(
-            table.add_entry(entry(0), DW_TAG_VARIABLE),
-            Err(EditFault::TableFull)
-        )
+    let before = Left {
+        units: 1,
+        entries: 1,
+        attributes: 1,
+    };
+    assert_eq!(rt; table.left(), before);
+    assert_eq!(rt; table.add(ENCODING, None), Ok(unit(0)));
+    let after = Left {
+        units: 0,
+        entries: 0,
+        attributes: 1,
+    };
+    assert_eq!(rt; table.left(), after);
+    assert_eq!(rt; table.add(ENCODING, None), Err(EditFault::TableFull));
+    assert_eq!(rt;
+        table.add_entry(entry(0), DW_TAG_VARIABLE),
+        Err(EditFault::TableFull)
     );
     match table.reserve(unit(0)) {
-        Err(EditFault::TableFull) => {}
-        Err(_) => return Err(Fail::new("another refusal")),
+        Err(fault) => assert_eq!(rt; fault, EditFault::TableFull),
         Ok((_, reservation)) => {
             let _ = table.give_back(reservation);
             return Err(Fail::new("an entry past the last"));
@@ -49,7 +49,7 @@ fn last_attribute(rt: HostRuntime) {
     let mut entries = [ENTRY; 1];
     let mut attributes = [ATTRIBUTE; 1];
     let mut table = UnitTable::new(TABLE, &mut units, &mut entries, &mut attributes, b"axis");
-    let _ = table.add(ENCODING, LineProgram::None);
+    let _ = table.add(ENCODING, None);
     let root = entry(0);
     assert!(rt;
         table
@@ -60,12 +60,11 @@ fn last_attribute(rt: HostRuntime) {
             )
             .is_ok()
     );
-    assert!(rt; table.left().attributes == 0);
-    assert!(rt;
-        matches!(
-            table.set(root, DW_AT_BYTE_SIZE, AttributeValue::Data1(4)),
-            Err(EditFault::TableFull)
-        )
+    assert_eq!(rt; table.left().attributes, 0);
+    let full = Err(EditFault::TableFull);
+    assert_eq!(rt;
+        table.set(root, DW_AT_BYTE_SIZE, AttributeValue::Data1(4)),
+        full
     );
     assert!(rt;
         table
@@ -73,21 +72,16 @@ fn last_attribute(rt: HostRuntime) {
             .is_ok()
     );
     assert!(rt; table.delete(root, DW_AT_BYTE_SIZE).is_ok());
-    assert!(rt; table.left().attributes == 0);
+    assert_eq!(rt; table.left().attributes, 0);
     assert!(rt; table.delete(root, DW_AT_NAME).is_ok());
-    assert!(rt; table.left().attributes == 1);
+    assert_eq!(rt; table.left().attributes, 1);
     assert!(rt;
         table
             .set(root, DW_AT_BYTE_SIZE, AttributeValue::Data1(4))
             .is_ok()
     );
     assert!(rt; matches!(table.attrs(root).next(), Some(a) if a.name == DW_AT_BYTE_SIZE));
-    assert!(rt;
-        matches!(
-            table.set(root, DW_AT_NAME, AttributeValue::Udata(1)),
-            Err(EditFault::TableFull)
-        )
-    );
+    assert_eq!(rt; table.set(root, DW_AT_NAME, AttributeValue::Udata(1)), full);
 }
 
 // A part of the pool may end where the pool ends, and not past it.
@@ -97,7 +91,7 @@ fn end_of_the_pool(rt: HostRuntime) {
     let mut entries = [ENTRY; 1];
     let mut attributes = [ATTRIBUTE; 1];
     let mut table = UnitTable::new(TABLE, &mut units, &mut entries, &mut attributes, b"axis");
-    let _ = table.add(ENCODING, LineProgram::None);
+    let _ = table.add(ENCODING, None);
     let root = entry(0);
     assert!(rt;
         table
@@ -108,27 +102,17 @@ fn end_of_the_pool(rt: HostRuntime) {
             )
             .is_ok()
     );
-    assert!(rt;
-        matches!(
-            table.set(
-                root,
-                DW_AT_NAME,
-                AttributeValue::Block(Span { start: 5, len: 0 })
-            ),
-            Err(EditFault::SpanOutOfBounds)
-        )
+    let past = AttributeValue::Block(Span { start: 5, len: 0 });
+    assert_eq!(rt;
+        table.set(root, DW_AT_NAME, past),
+        Err(EditFault::SpanOutOfBounds)
     );
-    assert!(rt;
-        matches!(
-            table.set(
-                root,
-                DW_AT_NAME,
-                AttributeValue::String(Span {
-                    start: 1,
-                    len: usize::MAX
-                })
-            ),
-            Err(EditFault::SpanOutOfBounds)
-        )
+    let long = AttributeValue::String(Span {
+        start: 1,
+        len: usize::MAX,
+    });
+    assert_eq!(rt;
+        table.set(root, DW_AT_NAME, long),
+        Err(EditFault::SpanOutOfBounds)
     );
 }

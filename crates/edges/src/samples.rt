@@ -1,7 +1,7 @@
 use numbers::{Address, Format};
 use trees::{
-    Attribute, AttributeRecord, AttributeValue, Encoding, EntryRecord, LineProgram, Note, State,
-    UnitEntryId, UnitId, UnitRecord,
+    Attribute, AttributeRecord, AttributeValue, Encoding, EntryRecord, Note, State, UnitEntryId,
+    UnitId, UnitRecord,
 };
 
 pub const TABLE: u32 = 7;
@@ -21,7 +21,7 @@ pub const ENCODING: Encoding = Encoding {
 // Lent memory may hold anything at first: these records name what is not there.
 pub const UNIT: UnitRecord = UnitRecord {
     encoding: ENCODING,
-    line: LineProgram::None,
+    line: None,
     root: 9,
     written: true,
 };

@@ -2,7 +2,7 @@ use crate::samples::{
     ATTRIBUTE, DW_AT_NAME, DW_TAG_VARIABLE, ENCODING, ENTRY, TABLE, UNIT, entry, unit,
 };
 use std::test::Fail;
-use trees::{AttributeValue, EditFault, LineProgram, Refusal, UnitTable};
+use trees::{AttributeValue, EditFault, Refusal, UnitTable};
 
 // Two tables may have one number: a reservation of one comes to the other, whose entry is not
 // waiting. It is handed back, and still good where it came from.
@@ -22,8 +22,8 @@ fn reservation_of_another_table(rt: HostRuntime) -> Result<(), Fail> {
         &mut more_attributes,
         b"",
     );
-    let _ = one.add(ENCODING, LineProgram::None);
-    let _ = two.add(ENCODING, LineProgram::None);
+    let _ = one.add(ENCODING, None);
+    let _ = two.add(ENCODING, None);
     let placed = two.add_entry(entry(0), DW_TAG_VARIABLE);
     let reserved = one.reserve(unit(0));
     let Ok((id, reservation)) = reserved else {
@@ -34,7 +34,7 @@ fn reservation_of_another_table(rt: HostRuntime) -> Result<(), Fail> {
         Err(Refusal { fault, reservation }) => {
             let back = one.give_back(reservation);
             assert!(rt; back && placed.is_ok());
-            assert!(rt; matches!(fault, EditFault::NotWaiting));
+            assert_eq!(rt; fault, EditFault::NotWaiting);
             assert!(rt; !one.knows(id) && two.knows(id));
             assert!(rt; one.counts().given_back == 1 && two.counts().placed == 1);
             Ok(())
@@ -49,16 +49,16 @@ fn taken_out(rt: HostRuntime) {
     let mut entries = [ENTRY; 3];
     let mut attributes = [ATTRIBUTE; 1];
     let mut table = UnitTable::new(TABLE, &mut units, &mut entries, &mut attributes, b"");
-    let _ = table.add(ENCODING, LineProgram::None);
+    let _ = table.add(ENCODING, None);
     let _ = table.add_entry(entry(0), DW_TAG_VARIABLE);
-    assert!(rt; matches!(table.delete_child(entry(0), entry(1)), Ok(true)));
-    assert!(rt; matches!(table.delete_child(entry(0), entry(1)), Ok(false)));
+    assert_eq!(rt; table.delete_child(entry(0), entry(1)), Ok(true));
+    assert_eq!(rt; table.delete_child(entry(0), entry(1)), Ok(false));
     assert!(rt;
         table
             .set(entry(1), DW_AT_NAME, AttributeValue::Udata(1))
             .is_ok()
     );
-    assert!(rt; matches!(table.add_entry(entry(1), DW_TAG_VARIABLE), Ok(id) if id.entry == 2));
+    assert_eq!(rt; table.add_entry(entry(1), DW_TAG_VARIABLE), Ok(entry(2)));
     assert!(rt; table.children(entry(0)).next().is_none());
     let mut walk = table.walk(unit(0));
     assert!(rt; walk.next().is_some());
@@ -73,7 +73,7 @@ fn written_and_closed(rt: HostRuntime) -> Result<(), Fail> {
     let mut entries = [ENTRY; 2];
     let mut attributes = [ATTRIBUTE; 1];
     let mut table = UnitTable::new(TABLE, &mut units, &mut entries, &mut attributes, b"");
-    let _ = table.add(ENCODING, LineProgram::None);
+    let _ = table.add(ENCODING, None);
     let Ok((id, reservation)) = table.reserve(unit(0)) else {
         return Err(Fail::new("no reservation"));
     };
@@ -87,9 +87,10 @@ fn written_and_closed(rt: HostRuntime) -> Result<(), Fail> {
     let closed = table.delete(id, DW_AT_NAME);
     let given = table.give_back(reservation);
     assert!(rt; !unused && named.is_ok() && used);
-    assert!(rt; matches!(sibling, Err(EditFault::SiblingName)));
-    assert!(rt; marked && matches!(written, Err(EditFault::UnitWritten)));
-    assert!(rt; matches!(closed, Err(EditFault::SessionClosed)));
+    assert_eq!(rt; sibling, Err(EditFault::SiblingName));
+    assert!(rt; marked);
+    assert_eq!(rt; written, Err(EditFault::UnitWritten));
+    assert_eq!(rt; closed, Err(EditFault::SessionClosed));
     assert!(rt; given && !table.knows(id) && table.uses_files(unit(0)));
     Ok(())
 }

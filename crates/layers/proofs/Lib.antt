@@ -1,3 +1,3 @@
 pub mod Caps
 pub mod Relocates
-pub mod Seeks
+pub mod Positions

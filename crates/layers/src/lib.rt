@@ -3,7 +3,7 @@
 mod notes;
 mod quota;
 mod relocating;
-mod table;
+mod room;
 
 pub use quota::Quota;
 pub use relocating::Relocating;

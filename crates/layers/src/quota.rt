@@ -1,27 +1,28 @@
 ghost use Rattle.std.specs.Prelude.{◌≡◌, ℕ, ◌+◌, ◌-◌, ◌≤◌, min, Bool, true, false, [], ◌∷◌, length};
-ghost use Rattle.sections.specs.Section.{Section, Ran, append, address, offset, reference, verdict, full, capped, symbol_checks, address_checks};
+ghost use Rattle.sections.specs.Section.{Section, verdict, capped, symbol_checks, address_checks};
 ghost use Rattle.layers.specs.Layers.{capped_bounded};
 
+use super::room::check_room;
 use numbers::{Address, SectionId};
 use sections::{Contents, Fault, LinkWriter, Note, Writer, check_size, check_word};
 
 // Whether a symbol can be written: declined by `fault` where the writer does not relocate.
-fn check_symbol(relocates: bool, fault: Fault, size: u8) -> Result<(), Fault>
-    ensures { result ≡ verdict (symbol_checks relocates fault size) }
+fn check_symbol<L: LinkWriter>(w: &L, fault: Fault, size: u8) -> Result<(), Fault>
+    ensures { result ≡ verdict (symbol_checks L.LinkWriter.relocates fault size) }
 {
-    if !relocates {
+    if !w.is_relocating() {
         return Err(fault);
     }
     check_size(size)
 }
 
 // What is checked of an address before the section's room.
-fn check_address(relocates: bool, addr: Address, size: u8) -> Result<(), Fault>
-    ensures { result ≡ verdict (address_checks relocates addr size) }
+fn check_address<L: LinkWriter>(w: &L, addr: Address, size: u8) -> Result<(), Fault>
+    ensures { result ≡ verdict (address_checks L.LinkWriter.relocates addr size) }
 {
     match addr {
         Address::Constant(val) => check_word(val, size),
-        Address::Symbol { .. } => check_symbol(relocates, Fault::InvalidAddress, size),
+        Address::Symbol { .. } => check_symbol(w, Fault::InvalidAddress, size),
     }
 }
 
@@ -38,58 +39,6 @@ impl<L: LinkWriter> Quota<L> {
         ensures { capped result.limit (L.Writer.meaning result.inner) ≡ capped limit (L.Writer.meaning inner) }
     {
         Quota { inner, limit }
-    }
-
-    // How many bytes are left under the limit.
-    fn room(&self) -> usize
-        ensures { result ≡ (capped self.now.limit (L.Writer.meaning self.now.inner)).left }
-    {
-        let mine = self.limit.saturating_sub(self.inner.len());
-        self.inner.left().min(mine)
-    }
-
-    // Whether a word has room under the limit.
-    fn check_room(&self, size: u8) -> Result<(), Fault>
-        ensures { result ≡ verdict (full size (capped self.now.limit (L.Writer.meaning self.now.inner)) ∷ []) }
-    {
-        if self.room() < size as usize {
-            Err(Fault::SectionFull)
-        } else {
-            Ok(())
-        }
-    }
-
-    fn cap_bytes(&mut self, bytes: &[u8]) -> Result<(), Fault>
-        ensures { Ran (append bytes.now) (capped self.old.limit (L.Writer.meaning self.old.inner)) (capped self.new.limit (L.Writer.meaning self.new.inner)) result }
-    {
-        if self.room() < bytes.len() {
-            return Err(Fault::SectionFull);
-        }
-        self.inner.write(bytes)
-    }
-
-    fn cap_address(&mut self, addr: Address, size: u8) -> Result<(), Fault>
-        ensures { Ran (address L.LinkWriter.relocates addr size) (capped self.old.limit (L.Writer.meaning self.old.inner)) (capped self.new.limit (L.Writer.meaning self.new.inner)) result }
-    {
-        check_address(self.inner.is_relocating(), addr, size)?;
-        self.check_room(size)?;
-        self.inner.write_address(addr, size)
-    }
-
-    fn cap_offset(&mut self, val: usize, section: SectionId, size: u8) -> Result<(), Fault>
-        ensures { Ran (offset L.LinkWriter.relocates val section size) (capped self.old.limit (L.Writer.meaning self.old.inner)) (capped self.new.limit (L.Writer.meaning self.new.inner)) result }
-    {
-        check_word(val as u64, size)?;
-        self.check_room(size)?;
-        self.inner.write_offset(val, section, size)
-    }
-
-    fn cap_reference(&mut self, symbol: usize, size: u8) -> Result<(), Fault>
-        ensures { Ran (reference L.LinkWriter.relocates symbol size) (capped self.old.limit (L.Writer.meaning self.old.inner)) (capped self.new.limit (L.Writer.meaning self.new.inner)) result }
-    {
-        check_symbol(self.inner.is_relocating(), Fault::InvalidReference, size)?;
-        self.check_room(size)?;
-        self.inner.write_reference(symbol, size)
     }
 }
 
@@ -111,11 +60,16 @@ impl<L: LinkWriter> Writer for Quota<L> {
     }
 
     fn left(&self) -> usize {
-        self.room()
+        let mine = self.limit.saturating_sub(self.inner.len());
+        self.inner.left().min(mine)
     }
 
+    #[tactic(auto, using(crate::proofs::Caps::ran_append))]
     fn write(&mut self, bytes: &[u8]) -> Result<(), Fault> {
-        self.cap_bytes(bytes)
+        if self.left() < bytes.len() {
+            return Err(Fault::SectionFull);
+        }
+        self.inner.write(bytes)
     }
 
     fn write_at(&mut self, offset: usize, bytes: &[u8]) -> Result<(), Fault> {
@@ -132,12 +86,18 @@ impl<L: LinkWriter> LinkWriter for Quota<L> {
         self.inner.is_relocating()
     }
 
+    #[tactic(auto, using(crate::proofs::Caps::ran_address))]
     fn write_address(&mut self, addr: Address, size: u8) -> Result<(), Fault> {
-        self.cap_address(addr, size)
+        check_address(&self.inner, addr, size)?;
+        check_room(self, size as usize)?;
+        self.inner.write_address(addr, size)
     }
 
+    #[tactic(auto, using(crate::proofs::Caps::ran_offset))]
     fn write_offset(&mut self, val: usize, section: SectionId, size: u8) -> Result<(), Fault> {
-        self.cap_offset(val, section, size)
+        check_word(val as u64, size)?;
+        check_room(self, size as usize)?;
+        self.inner.write_offset(val, section, size)
     }
 
     fn write_offset_at(
@@ -150,8 +110,11 @@ impl<L: LinkWriter> LinkWriter for Quota<L> {
         self.inner.write_offset_at(at, val, section, size)
     }
 
+    #[tactic(auto, using(crate::proofs::Caps::ran_reference))]
     fn write_reference(&mut self, symbol: usize, size: u8) -> Result<(), Fault> {
-        self.cap_reference(symbol, size)
+        check_symbol(&self.inner, Fault::InvalidReference, size)?;
+        check_room(self, size as usize)?;
+        self.inner.write_reference(symbol, size)
     }
 }
 

@@ -1,9 +1,10 @@
 ghost use Rattle.std.specs.Prelude.{◌≡◌, ℕ, ◌+◌, ◌-◌, ◌≤◌, Bool, true, false, List, [], replicate};
-ghost use Rattle.sections.specs.Section.{Section, Ran, note_end, note_into, address, offset, offset_at, reference};
-ghost use Rattle.layers.specs.Layers.{relocated, bare, symbol_end};
+ghost use Rattle.sections.specs.Notes.{distinct};
+ghost use Rattle.sections.specs.Section.{Section, Ran};
+ghost use Rattle.layers.specs.Layers.{relocated, bare, word_end, word_into};
 
 use super::notes::Notes;
-use super::table;
+use super::room::check_room;
 use numbers::{Address, SectionId};
 use sections::{
     Contents, Fault, LinkWriter, Note, Target, Writer, check_size, check_word, write_udata,
@@ -24,6 +25,7 @@ fn zeros(size: u8) -> &'static [u8]
 pub struct Relocating<W> {
     inner: W,
     notes: Notes,
+    ghost apart: { distinct notes ≡ true },
 }
 
 impl<W: Writer> Relocating<W> {
@@ -33,48 +35,35 @@ impl<W: Writer> Relocating<W> {
     {
         Relocating {
             inner,
-            notes: table::no_notes(),
+            notes: Notes::new(),
         }
     }
 
     // A word of zeros at the end, with a note.
     fn append_note(&mut self, size: u8, target: Target, addend: i128) -> Result<(), Fault>
-        requires { size ≤ 8 }
-        ensures { Ran (note_end size target addend) (relocated self.old.notes (W.Writer.meaning self.old.inner)) (relocated self.new.notes (W.Writer.meaning self.new.inner)) result }
+        ensures { Ran (word_end size target addend) (relocated self.old.notes (W.Writer.meaning self.old.inner)) (relocated self.new.notes (W.Writer.meaning self.new.inner)) result }
     {
+        check_size(size)?;
+        check_room(&self.inner, size as usize)?;
         let place = self.inner.len();
-        if self.inner.left() < size as usize {
-            return Err(Fault::SectionFull);
-        }
-        if !table::has_room(&self.notes, place) {
+        if !self.notes.has_room(place) {
             return Err(Fault::NotesFull);
         }
         self.inner.write(zeros(size))?;
-        table::put(
-            &mut self.notes,
-            Note {
-                place,
-                size,
-                target,
-                addend,
-            },
-        );
+        self.notes.put(Note {
+            place,
+            size,
+            target,
+            addend,
+        });
         Ok(())
-    }
-
-    // A symbol plus an addend at the end.
-    fn append_symbol(&mut self, symbol: usize, addend: i128, size: u8) -> Result<(), Fault>
-        ensures { Ran (symbol_end symbol addend size) (relocated self.old.notes (W.Writer.meaning self.old.inner)) (relocated self.new.notes (W.Writer.meaning self.new.inner)) result }
-    {
-        check_size(size)?;
-        self.append_note(size, Target::Symbol(symbol), addend)
     }
 
     // A word of zeros in the middle, with a note.
     fn place_note(&mut self, at: usize, size: u8, target: Target, addend: i128) -> Result<(), Fault>
-        requires { size ≤ 8 }
-        ensures { Ran (note_into at size target addend) (relocated self.old.notes (W.Writer.meaning self.old.inner)) (relocated self.new.notes (W.Writer.meaning self.new.inner)) result }
+        ensures { Ran (word_into at size target addend) (relocated self.old.notes (W.Writer.meaning self.old.inner)) (relocated self.new.notes (W.Writer.meaning self.new.inner)) result }
     {
+        check_size(size)?;
         let n = self.inner.len();
         if at > n {
             return Err(Fault::OffsetOutOfBounds);
@@ -82,55 +71,17 @@ impl<W: Writer> Relocating<W> {
         if size as usize > n - at {
             return Err(Fault::LengthOutOfBounds);
         }
-        if !table::has_room(&self.notes, at) {
+        if !self.notes.has_room(at) {
             return Err(Fault::NotesFull);
         }
         self.inner.write_at(at, zeros(size))?;
-        table::put(
-            &mut self.notes,
-            Note {
-                place: at,
-                size,
-                target,
-                addend,
-            },
-        );
+        self.notes.put(Note {
+            place: at,
+            size,
+            target,
+            addend,
+        });
         Ok(())
-    }
-
-    fn note_address(&mut self, addr: Address, size: u8) -> Result<(), Fault>
-        ensures { Ran (address true addr size) (relocated self.old.notes (W.Writer.meaning self.old.inner)) (relocated self.new.notes (W.Writer.meaning self.new.inner)) result }
-    {
-        match addr {
-            Address::Constant(val) => write_udata(self, val, size),
-            Address::Symbol { symbol, addend } => self.append_symbol(symbol, addend as i128, size),
-        }
-    }
-
-    fn note_offset(&mut self, val: usize, section: SectionId, size: u8) -> Result<(), Fault>
-        ensures { Ran (offset true val section size) (relocated self.old.notes (W.Writer.meaning self.old.inner)) (relocated self.new.notes (W.Writer.meaning self.new.inner)) result }
-    {
-        check_word(val as u64, size)?;
-        self.append_note(size, Target::Section(section), val as i128)
-    }
-
-    fn note_offset_at(
-        &mut self,
-        at: usize,
-        val: usize,
-        section: SectionId,
-        size: u8,
-    ) -> Result<(), Fault>
-        ensures { Ran (offset_at true at val section size) (relocated self.old.notes (W.Writer.meaning self.old.inner)) (relocated self.new.notes (W.Writer.meaning self.new.inner)) result }
-    {
-        check_word(val as u64, size)?;
-        self.place_note(at, size, Target::Section(section), val as i128)
-    }
-
-    fn note_reference(&mut self, symbol: usize, size: u8) -> Result<(), Fault>
-        ensures { Ran (reference true symbol size) (relocated self.old.notes (W.Writer.meaning self.old.inner)) (relocated self.new.notes (W.Writer.meaning self.new.inner)) result }
-    {
-        self.append_symbol(symbol, 0, size)
     }
 }
 
@@ -141,7 +92,7 @@ impl<W: Writer> Writer for Relocating<W> {
 
     ghost bounded = { λ w. W.Writer.bounded w.inner };
 
-    ghost apart = { λ w. w.notes.ok.2 };
+    ghost apart = { λ w. w.apart };
 
     fn endian(&self) -> W::Endian {
         self.inner.endian()
@@ -173,14 +124,23 @@ impl<W: Writer> LinkWriter for Relocating<W> {
         true
     }
 
+    #[tactic(auto, using(crate::proofs::Relocates::symbol_noted, crate::proofs::Relocates::constant_noted))]
     fn write_address(&mut self, addr: Address, size: u8) -> Result<(), Fault> {
-        self.note_address(addr, size)
+        match addr {
+            Address::Constant(val) => write_udata(self, val, size),
+            Address::Symbol { symbol, addend } => {
+                self.append_note(size, Target::Symbol(symbol), addend as i128)
+            }
+        }
     }
 
+    #[tactic(auto, using(crate::proofs::Relocates::offset_noted))]
     fn write_offset(&mut self, val: usize, section: SectionId, size: u8) -> Result<(), Fault> {
-        self.note_offset(val, section, size)
+        check_word(val as u64, size)?;
+        self.append_note(size, Target::Section(section), val as i128)
     }
 
+    #[tactic(auto, using(crate::proofs::Relocates::offset_at_noted))]
     fn write_offset_at(
         &mut self,
         at: usize,
@@ -188,11 +148,13 @@ impl<W: Writer> LinkWriter for Relocating<W> {
         section: SectionId,
         size: u8,
     ) -> Result<(), Fault> {
-        self.note_offset_at(at, val, section, size)
+        check_word(val as u64, size)?;
+        self.place_note(at, size, Target::Section(section), val as i128)
     }
 
+    #[tactic(auto, unfolding(sections::specs::Section::reference, crate::specs::Layers::word_end))]
     fn write_reference(&mut self, symbol: usize, size: u8) -> Result<(), Fault> {
-        self.note_reference(symbol, size)
+        self.append_note(size, Target::Symbol(symbol), 0)
     }
 }
 
@@ -202,6 +164,6 @@ impl<W: Contents> Contents for Relocating<W> {
     }
 
     fn notes(&self) -> &[Note] {
-        &self.notes.list[0..self.notes.used]
+        self.notes.as_slice()
     }
 }

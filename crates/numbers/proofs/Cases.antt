@@ -1,10 +1,5 @@
-use Rattle.std.proofs.Common.{List, [], ◌∷◌, ◌++◌, refl}
-use Rattle.numbers.specs.Leb.{uleb, sleb}
-use Rattle.numbers.specs.Cases.{Case, Right, cases}
-
-pub cases_right : Right cases
-unfolding uleb sleb
-cases_right = (refl, (refl, (refl, (refl, (refl, (refl, (refl, (refl, (refl, (refl, tt))))))))))
+use Rattle.std.proofs.Common.{List, [], ◌∷◌, ◌++◌}
+use Rattle.numbers.specs.Cases.{Case, Right}
 
 -- one table after another
 pub right-++ : (xs ys : List Case) → Right xs → Right ys → Right (xs ++ ys)

@@ -1,4 +1,5 @@
 pub mod Cases
 pub mod Leb
+mod Names
 pub mod Orders
 mod Turns

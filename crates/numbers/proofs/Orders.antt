@@ -1,11 +1,11 @@
-use Rattle.std.specs.Prelude.{◌≡◌, ℕ, zero, suc, ◌+◌, ◌*◌, ◌/◌, ◌%◌, ◌^◌, ◌<◌, Bool, true, false, cond, List, [], ◌∷◌, ◌++◌, reverse, length, replicate, slice_index, refl}
+use Rattle.std.specs.Prelude.{◌≡◌, ℕ, zero, suc, ◌+◌, ◌*◌, ◌/◌, ◌%◌, ◌^◌, ◌<◌, Bool, true, false, List, [], ◌∷◌, ◌++◌, reverse, length, replicate, refl}
 use Rattle.std.proofs.Math.Nat.{div-div-eq-div-mul}
 use Rattle.std.proofs.Common.{mod-eq_of_lt, mul_comm, zero-add, suc-add, add-one, arith, sym, ap, ◌∙◌}
 use mathlib.Core.List.{reverse-cons, reverse-append}
 use Rattle.std.proofs.Math.Arith.{mod-mul, digits_div, digits_mod}
 use Rattle.std.proofs.lemmas.Nat.{mod_below}
 use Rattle.std.proofs.lemmas.List.{length-reverse, replicate_more}
-use Rattle.numbers.specs.Orders.{digits, number, ordered, bytes_of, halves_of, value_of}
+use Rattle.numbers.specs.Orders.{digits, bytes_of, halves_of}
 use Rattle.numbers.specs.Reading.{power}
 
 -- sizes
@@ -94,38 +94,10 @@ quotients_are : (size n : ℕ) → quotients size n ≡ digits size n
 quotients_are zero n = refl
 quotients_are (suc k) n = ap (λ ds. n % 256 ∷ ds) (places_are 256 k n)
 
-pub writes_little : (size n : ℕ) (big : Bool) (xs : List ℕ) → false ≡ big → xs ≡ quotients size n → xs ≡ bytes_of big size n
+pub writes_little : (size n : ℕ) (xs : List ℕ) → xs ≡ quotients size n → xs ≡ bytes_of false size n
 unfolding bytes_of
-writes_little size n big xs o e = e ∙ quotients_are size n ∙ ap (λ b. ordered b (digits size n)) o
+writes_little size n xs e = e ∙ quotients_are size n
 
-pub writes_big : (size n : ℕ) (big : Bool) (xs : List ℕ) → true ≡ big → xs ≡ reverse (quotients size n) → xs ≡ bytes_of big size n
+pub writes_big : (size n : ℕ) (xs : List ℕ) → xs ≡ reverse (quotients size n) → xs ≡ bytes_of true size n
 unfolding bytes_of
-writes_big size n big xs o e = e ∙ ap reverse (quotients_are size n) ∙ ap (λ b. ordered b (digits size n)) o
-
-pub writes_halves : (n : ℕ) (big side : Bool) (high low xs : List ℕ) → side ≡ big → high ≡ bytes_of big 8 (n / 2 ^ 64) → low ≡ bytes_of big 8 (n % 2 ^ 64) → xs ≡ cond side (high ++ low) (low ++ high) → xs ≡ halves_of big n
-writes_halves n big side high low xs o h l e = cc
-
--- a list element by element, which is how `from_le_bytes` reads it
-
-abbrev pub elements : ℕ → ℕ → List ℕ → List ℕ
-elements i zero xs = []
-elements i (suc k) xs = slice_index xs i ∷ elements (suc i) k xs
-
-elements_past : (i k x : ℕ) (xs : List ℕ) → elements (suc i) k (x ∷ xs) ≡ elements i k xs
-elements_past i zero x xs = refl
-elements_past i (suc k) x xs = ap (λ ys. slice_index xs i ∷ ys) (elements_past (suc i) k x xs)
-
-elements_are : (k : ℕ) (xs : List ℕ) → length xs ≡ k → elements 0 k xs ≡ xs
-elements_are zero [] h = refl
-elements_are zero (x ∷ xs) h = absurd (omega arith)
-elements_are (suc k) [] h = absurd (omega arith)
-elements_are (suc k) (x ∷ xs) h = ap (λ ys. x ∷ ys) (elements_past 0 k x xs ∙ elements_are k xs (omega arith))
-
-pub reads_little : (size n : ℕ) (big : Bool) (xs : List ℕ) → false ≡ big → length xs ≡ size → n ≡ number (elements 0 size xs) → n ≡ value_of big xs
-unfolding value_of
-reads_little size n big xs o h e = e ∙ ap number (elements_are size xs h) ∙ ap (λ b. number (ordered b xs)) o
-
-pub reads_big : (size n : ℕ) (big : Bool) (xs : List ℕ) → true ≡ big → length xs ≡ size → n ≡ number (reverse (elements 0 size xs)) → n ≡ value_of big xs
-unfolding value_of
-reads_big size n big xs o h e =
-    e ∙ ap (λ ys. number (reverse ys)) (elements_are size xs h) ∙ ap (λ b. number (ordered b xs)) o
+writes_big size n xs e = e ∙ ap reverse (quotients_are size n)

@@ -1,4 +1,4 @@
-use Rattle.std.specs.Prelude.{ℕ, List, codes}
+use Rattle.std.specs.Prelude.{◌≡◌, ℕ, List, [], ◌∷◌, Result, MatchResult, codes}
 use Rattle.numbers.specs.declared.common.Format.{Format}
 use Rattle.numbers.specs.declared.common.Format.TheVariants.{Dwarf32, Dwarf64}
 use Rattle.numbers.specs.declared.common.SectionId.{SectionId}
@@ -8,6 +8,15 @@ use Rattle.numbers.specs.declared.common.SectionId.TheVariants.{DebugAbbrev, Deb
 abbrev pub word_size : Format → ℕ
 word_size Dwarf32 = 4
 word_size Dwarf64 = 8
+
+-- the bits of an offset or a length, as a text
+abbrev pub format_name : Format → List ℕ
+format_name Dwarf32 = codes "32"
+format_name Dwarf64 = codes "64"
+
+-- the answer to a text: what it names, or an error where it names nothing
+abbrev pub IsNamed : {A E : Type 0} → (A → List ℕ) → List ℕ → Result A E → Type 0
+IsNamed name text r = MatchResult r (λ x. name x ≡ text) (λ _. (x : _) → name x ≡ text → ⊥)
 
 -- a section's name in an ELF file
 abbrev pub section_name : SectionId → List ℕ
@@ -36,3 +45,7 @@ section_name DebugStr = codes ".debug_str"
 section_name DebugStrOffsets = codes ".debug_str_offsets"
 section_name DebugTuIndex = codes ".debug_tu_index"
 section_name DebugTypes = codes ".debug_types"
+
+-- the sections
+abbrev pub all_sections : List SectionId
+all_sections = DebugAbbrev ∷ DebugAddr ∷ DebugAranges ∷ DebugCuIndex ∷ DebugFrame ∷ EhFrame ∷ EhFrameHdr ∷ DebugGnuPubNames ∷ DebugGnuPubTypes ∷ DebugInfo ∷ DebugLine ∷ DebugLineStr ∷ DebugLoc ∷ DebugLocLists ∷ DebugMacinfo ∷ DebugMacro ∷ DebugNames ∷ DebugPubNames ∷ DebugPubTypes ∷ DebugRanges ∷ DebugRngLists ∷ DebugStr ∷ DebugStrOffsets ∷ DebugTuIndex ∷ DebugTypes ∷ []

@@ -1,4 +1,4 @@
-use Rattle.std.specs.Prelude.{ℕ, zero, suc, ◌+◌, ◌*◌, ◌/◌, ◌%◌, ◌^◌, Bool, true, false, cond, List, [], ◌∷◌, ◌++◌, reverse}
+use Rattle.std.specs.Prelude.{ℕ, zero, suc, ◌+◌, ◌*◌, ◌/◌, ◌%◌, ◌^◌, Bool, true, false, cond, List, [], ◌∷◌, ◌++◌, reverse, codes}
 use Rattle.numbers.specs.declared.endianity.RunTimeEndian.{RunTimeEndian}
 use Rattle.numbers.specs.declared.endianity.RunTimeEndian.TheVariants.{Little, Big}
 
@@ -35,3 +35,8 @@ value_of big bytes = number (ordered big bytes)
 abbrev pub is_big : RunTimeEndian → Bool
 is_big Little = false
 is_big Big = true
+
+-- its name
+abbrev pub order_name : RunTimeEndian → List ℕ
+order_name Little = codes "little"
+order_name Big = codes "big"

@@ -4,13 +4,12 @@ mod common;
 mod endianity;
 mod leb128;
 
-pub use common::{Address, Format, SectionId};
+pub use common::{Address, Format, SectionId, UnknownName};
 pub use endianity::{
-    BigEndian, Endianity, LittleEndian, RunTimeEndian, decode_u8, decode_u16, decode_u24,
-    decode_u32, decode_u64, decode_u128, encode_u8, encode_u16, encode_u24, encode_u32, encode_u64,
-    encode_u128,
+    BigEndian, Endianity, LittleEndian, Number, RunTimeEndian, decode, decode_u24, encode,
+    encode_u24,
 };
-pub use leb128::{Leb128, sleb128_size, uleb128_size, worked_cases};
+pub use leb128::{Leb128, Septets, leb128_size, worked_cases};
 
 #[cfg(test)]
 mod tests;

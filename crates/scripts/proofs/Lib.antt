@@ -1,3 +1,3 @@
 pub mod Pools
-pub mod Rows
+pub mod Sets
 pub mod Words

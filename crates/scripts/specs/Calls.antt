@@ -1,10 +1,8 @@
 -- The calls that lines say.
-use Rattle.std.specs.Prelude.{◌≡◌, ℕ, cond, List, [], drop, codes, slice_index_or}
-use Rattle.numbers.specs.declared.common.Format.{Format}
-use Rattle.numbers.specs.declared.common.Format.TheVariants.{Dwarf32, Dwarf64}
+use Rattle.std.specs.Prelude.{◌≡◌, ℕ, cond, Some, None, Option, List, [], drop, codes, slice_index_or}
+use Rattle.numbers.specs.Common.{format_name}
 use Rattle.trees.specs.declared.records.Encoding.{Encoding}
 use Rattle.trees.specs.declared.records.LineProgram.{LineProgram}
-use Rattle.trees.specs.declared.records.LineProgram.TheVariants as line
 use Rattle.scripts.specs.declared.call.Edit.{Edit}
 use Rattle.scripts.specs.declared.call.Edit.TheVariants as edit
 use Rattle.scripts.specs.declared.call.Look.{Look}
@@ -37,17 +35,13 @@ abbrev pub call_verb : Call → Verb
 call_verb (call.Edit x) = edit_verb x
 call_verb (call.Look x) = look_verb x
 
--- how formats and line programs are written
-abbrev pub format_word : Format → List ℕ
-format_word Dwarf32 = codes "32"
-format_word Dwarf64 = codes "64"
-
+-- how encodings and line programs are written
 abbrev pub EncodingFrom : Encoding → List (List ℕ) → Type 0
-EncodingFrom x ws = IsNumber ws 0 x.version × (slice_index_or ws 1 [] ≡ format_word x.format) × IsNumber ws 2 x.address_size
+EncodingFrom x ws = IsNumber ws 0 x.version × (slice_index_or ws 1 [] ≡ format_name x.format) × IsNumber ws 2 x.address_size
 
-abbrev pub LineFrom : LineProgram → List (List ℕ) → Type 0
-LineFrom line.None ws = slice_index_or ws 0 [] ≡ codes "none"
-LineFrom (line.At offset empty) ws = (slice_index_or ws 0 [] ≡ cond empty (codes "empty") (codes "full")) × IsNumber ws 1 offset
+abbrev pub LineFrom : Option LineProgram → List (List ℕ) → Type 0
+LineFrom None ws = slice_index_or ws 0 [] ≡ codes "none"
+LineFrom (Some x) ws = (slice_index_or ws 0 [] ≡ cond x.empty (codes "empty") (codes "full")) × IsNumber ws 1 x.offset
 
 -- the arguments of each call, as they are written after its verb
 abbrev pub EditFrom : Edit → List (List ℕ) → List ℕ → Type 0

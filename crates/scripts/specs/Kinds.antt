@@ -1,4 +1,5 @@
-use Rattle.std.specs.Prelude.{ℕ, ◌≢◌, List, Some, None, codes, Option}
+use Rattle.std.specs.Prelude.{ℕ, Bool, true, false, ◌≢◌, List, Contains, refl, Some, None, codes, Option}
+use Rattle.std.proofs.Common.{lit<}
 use Rattle.scripts.specs.declared.kind.Kind.{Kind}
 use Rattle.scripts.specs.declared.kind.Kind.TheVariants as kind
 use Rattle.numbers.specs.declared.common.Address.{Address}
@@ -7,6 +8,7 @@ use Rattle.trees.specs.declared.records.DebugInfoRef.{DebugInfoRef}
 use Rattle.trees.specs.declared.records.DebugInfoRef.TheVariants as info
 use Rattle.trees.specs.declared.records.AttributeValue.{AttributeValue}
 use Rattle.trees.specs.declared.records.AttributeValue.TheVariants as value
+use Rattle.scripts.specs.declared.kind.TheConstants.{KINDS}
 
 -- how each is written
 abbrev pub word_of : Kind → List ℕ
@@ -53,9 +55,72 @@ word_of kind.Ordering = codes "ordering"
 word_of kind.FileIndexNone = codes "file_index_none"
 word_of kind.FileIndex = codes "file_index"
 
+-- each stands in the list of all
+pub in_all : (v : Kind) → Contains KINDS v
+in_all kind.Address = (0, lit< tt, refl)
+in_all kind.AddressSymbol = (1, lit< tt, refl)
+in_all kind.Block = (2, lit< tt, refl)
+in_all kind.Data1 = (3, lit< tt, refl)
+in_all kind.Data2 = (4, lit< tt, refl)
+in_all kind.Data4 = (5, lit< tt, refl)
+in_all kind.Data8 = (6, lit< tt, refl)
+in_all kind.Data16 = (7, lit< tt, refl)
+in_all kind.Sdata = (8, lit< tt, refl)
+in_all kind.Udata = (9, lit< tt, refl)
+in_all kind.ImplicitConst = (10, lit< tt, refl)
+in_all kind.Exprloc = (11, lit< tt, refl)
+in_all kind.Flag = (12, lit< tt, refl)
+in_all kind.FlagPresent = (13, lit< tt, refl)
+in_all kind.UnitRef = (14, lit< tt, refl)
+in_all kind.InfoRefSymbol = (15, lit< tt, refl)
+in_all kind.InfoRef = (16, lit< tt, refl)
+in_all kind.InfoRefSup = (17, lit< tt, refl)
+in_all kind.LineProgramRef = (18, lit< tt, refl)
+in_all kind.LocListRef = (19, lit< tt, refl)
+in_all kind.MacinfoRef = (20, lit< tt, refl)
+in_all kind.MacroRef = (21, lit< tt, refl)
+in_all kind.RangeListRef = (22, lit< tt, refl)
+in_all kind.TypesRef = (23, lit< tt, refl)
+in_all kind.StringRef = (24, lit< tt, refl)
+in_all kind.StrRefSup = (25, lit< tt, refl)
+in_all kind.LineStringRef = (26, lit< tt, refl)
+in_all kind.String = (27, lit< tt, refl)
+in_all kind.Encoding = (28, lit< tt, refl)
+in_all kind.DecimalSign = (29, lit< tt, refl)
+in_all kind.Endianity = (30, lit< tt, refl)
+in_all kind.Accessibility = (31, lit< tt, refl)
+in_all kind.Visibility = (32, lit< tt, refl)
+in_all kind.Virtuality = (33, lit< tt, refl)
+in_all kind.Language = (34, lit< tt, refl)
+in_all kind.AddressClass = (35, lit< tt, refl)
+in_all kind.IdentifierCase = (36, lit< tt, refl)
+in_all kind.CallingConvention = (37, lit< tt, refl)
+in_all kind.Inline = (38, lit< tt, refl)
+in_all kind.Ordering = (39, lit< tt, refl)
+in_all kind.FileIndexNone = (40, lit< tt, refl)
+in_all kind.FileIndex = (41, lit< tt, refl)
+
 -- a word that is no kind's
 abbrev pub NoKind : List ℕ → Type 0
 NoKind w = (v : Kind) → word_of v ≢ w
+
+-- how many words say a value of a kind
+abbrev pub word_count : Kind → ℕ
+word_count kind.FlagPresent = 0
+word_count kind.LineProgramRef = 0
+word_count kind.FileIndexNone = 0
+word_count kind.AddressSymbol = 2
+word_count kind.Data16 = 2
+word_count kind.UnitRef = 2
+word_count kind.InfoRef = 2
+word_count _ = 1
+
+-- a value that is bytes
+abbrev pub is_bytes : Kind → Bool
+is_bytes kind.Block = true
+is_bytes kind.Exprloc = true
+is_bytes kind.String = true
+is_bytes _ = false
 
 abbrev pub address_kind : Address → Kind
 address_kind (Constant n) = kind.Address

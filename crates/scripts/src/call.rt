@@ -2,9 +2,9 @@ use crate::value::{EntryName, Value};
 use trees::{Encoding, LineProgram};
 
 // An edit of the table, in the script's names.
-#[derive(Clone, Copy)]
+#[derive(Clone, Copy, PartialEq, Eq)]
 pub enum Edit {
-    Unit(Encoding, LineProgram),
+    Unit(Encoding, Option<LineProgram>),
     Reserve(u32),
     AddReserved {
         entry: EntryName,
@@ -36,7 +36,7 @@ pub enum Edit {
 }
 
 // A look at an entry.
-#[derive(Clone, Copy)]
+#[derive(Clone, Copy, PartialEq, Eq)]
 pub enum Look {
     Attrs(EntryName),
     Children(EntryName),
@@ -44,7 +44,7 @@ pub enum Look {
 }
 
 // What a line asks of the session that it stands in.
-#[derive(Clone, Copy)]
+#[derive(Clone, Copy, PartialEq, Eq)]
 pub enum Call {
     Edit(Edit),
     Look(Look),

@@ -1,66 +1,55 @@
-ghost use Rattle.std.specs.Prelude.{◌≡◌, ℕ, List, [], ◌∷◌, ◌++◌, IfOk, Some};
+ghost use Rattle.std.specs.Prelude.{◌≡◌, ◌≢◌, ℕ, List, [], ◌∷◌, ◌++◌, IfOk, IfErr, Some};
 ghost use Rattle.texts.specs.Texts.{number_of};
 ghost use Rattle.scripts.specs.declared.verb.Verb.TheVariants.{Unit as UnitVerb, Set as SetVerb};
 ghost use Rattle.scripts.specs.Verbs.{word_of};
 ghost use Rattle.scripts.specs.Values.{texts_of};
-ghost use Rattle.scripts.specs.Calls.{call_verb, format_word, EncodingFrom, LineFrom, CallFrom};
+ghost use Rattle.scripts.specs.Complaints.{NoCall, NoEncoding, NoOffset, NotRead};
+ghost use Rattle.scripts.specs.Calls.{call_verb, EncodingFrom, LineFrom, CallFrom};
 
 use crate::call::{Call, Edit, Look};
 use crate::complaint::Complaint;
-use crate::kind::kind_named;
-use crate::value::EntryName;
+use crate::kind::Kind;
 use crate::values::{entry_name, flag, kind_value};
-use crate::verb::{Verb, verb_named};
-use numbers::Format;
+use crate::verb::Verb;
 use std::alloc::Global;
-use texts::{byte, half, index, short, wide};
+use texts::{named, number};
 use trees::{Encoding, LineProgram};
-
-// 32-bit or 64-bit DWARF.
-fn format(text: &str) -> Result<Format, Complaint>
-    ensures { IfOk result (λ x. text.now ≡ format_word x) }
-{
-    match text {
-        "32" => Ok(Format::Dwarf32),
-        "64" => Ok(Format::Dwarf64),
-        _ => Err(Complaint::BadFormat),
-    }
-}
 
 // What fixes the layout of a unit's numbers.
 fn encoding(version: &str, bits: &str, size: &str) -> Result<Encoding, Complaint>
-    ensures { IfOk result (λ x. EncodingFrom x (version.now ∷ bits.now ∷ size.now ∷ [])) }
+    ensures reads { IfOk result (λ x. EncodingFrom x (version.now ∷ bits.now ∷ size.now ∷ [])) }
+    ensures refuses { IfErr result (λ e. NoEncoding (version.now ∷ bits.now ∷ size.now ∷ []) e) }
 {
     Ok(Encoding {
-        version: short(version)?,
-        format: format(bits)?,
-        address_size: byte(size)?,
+        version: number(version)?,
+        format: bits.parse().map_err(|_| Complaint::BadFormat)?,
+        address_size: number(size)?,
     })
 }
 
 // A line program that is there.
 fn line_program(how: &str, offset: &str) -> Result<LineProgram, Complaint>
-    ensures { IfOk result (λ x. LineFrom x (how.now ∷ offset.now ∷ [])) }
+    ensures reads { IfOk result (λ x. LineFrom (Some x) (how.now ∷ offset.now ∷ [])) }
+    ensures refuses { IfErr result (λ e. NoOffset how.now offset.now e) }
 {
-    match how {
-        "empty" => Ok(LineProgram::At {
-            offset: wide(offset)?,
-            empty: true,
-        }),
-        "full" => Ok(LineProgram::At {
-            offset: wide(offset)?,
-            empty: false,
-        }),
-        _ => Err(Complaint::BadLineProgram),
-    }
+    let empty = match how {
+        "empty" => true,
+        "full" => false,
+        _ => return Err(Complaint::BadLineProgram),
+    };
+    Ok(LineProgram {
+        offset: number(offset)?,
+        empty,
+    })
 }
 
-// A call of two words.
-fn two_words(verb: Verb, a: &str, b: &str) -> Result<Call, Complaint>
+// A call of two words. The entry is read first, so that a bad number is told before a wrong count.
+fn two_words(verb: Verb, unit: &str, entry: &str) -> Result<Call, Complaint>
     ensures verb { IfOk result (λ x. call_verb x ≡ verb) }
-    ensures reads { (pool : List ℕ) → IfOk result (λ x. CallFrom x (a.now ∷ b.now ∷ []) pool) }
+    ensures reads { (pool : List ℕ) → IfOk result (λ x. CallFrom x (unit.now ∷ entry.now ∷ []) pool) }
+    ensures refuses { IfErr result (λ e. NoCall verb (unit.now ∷ entry.now ∷ []) e) }
 {
-    let entry = entry_name(a, b)?;
+    let entry = entry_name(unit, entry)?;
     match verb {
         Verb::GiveBack => Ok(Call::Edit(Edit::GiveBack(entry))),
         Verb::Attrs => Ok(Call::Look(Look::Attrs(entry))),
@@ -70,119 +59,89 @@ fn two_words(verb: Verb, a: &str, b: &str) -> Result<Call, Complaint>
     }
 }
 
-// A call of three words.
-fn three_words(verb: Verb, a: &str, b: &str, c: &str) -> Result<Call, Complaint>
+// A call of three words, in the same order.
+fn three_words(verb: Verb, unit: &str, entry: &str, last: &str) -> Result<Call, Complaint>
     ensures verb { IfOk result (λ x. call_verb x ≡ verb) }
-    ensures reads { (pool : List ℕ) → IfOk result (λ x. CallFrom x (a.now ∷ b.now ∷ c.now ∷ []) pool) }
+    ensures reads { (pool : List ℕ) → IfOk result (λ x. CallFrom x (unit.now ∷ entry.now ∷ last.now ∷ []) pool) }
+    ensures refuses { IfErr result (λ e. NoCall verb (unit.now ∷ entry.now ∷ last.now ∷ []) e) }
 {
-    let entry = entry_name(a, b)?;
+    let entry = entry_name(unit, entry)?;
     match verb {
         Verb::Add => Ok(Call::Edit(Edit::Add {
             parent: entry,
-            tag: short(c)?,
+            tag: number(last)?,
         })),
         Verb::Delete => Ok(Call::Edit(Edit::Delete {
             entry,
-            name: short(c)?,
+            name: number(last)?,
         })),
         Verb::SetSibling => Ok(Call::Edit(Edit::SetSibling {
             entry,
-            sibling: flag(c)?,
+            sibling: flag(last)?,
         })),
         Verb::DeleteChild => Ok(Call::Edit(Edit::DeleteChild {
             parent: entry,
-            child: entry_name(a, c)?,
+            child: entry_name(unit, last)?,
         })),
-        _ => Err(Complaint::WordCount),
-    }
-}
-
-// A call of four words.
-fn four_words(verb: Verb, a: &str, b: &str, c: &str, d: &str) -> Result<Call, Complaint>
-    ensures verb { IfOk result (λ x. call_verb x ≡ verb) }
-    ensures reads { (pool : List ℕ) → IfOk result (λ x. CallFrom x (a.now ∷ b.now ∷ c.now ∷ d.now ∷ []) pool) }
-{
-    match verb {
-        Verb::AddReserved => Ok(Call::Edit(Edit::AddReserved {
-            entry: entry_name(a, b)?,
-            parent: entry_name(a, c)?,
-            tag: short(d)?,
-        })),
-        _ => Err(Complaint::WordCount),
-    }
-}
-
-// A call of one word.
-fn one_word(verb: Verb, a: &str) -> Result<Call, Complaint>
-    ensures verb { IfOk result (λ x. call_verb x ≡ verb) }
-    ensures reads { (pool : List ℕ) → IfOk result (λ x. CallFrom x (a.now ∷ []) pool) }
-{
-    match verb {
-        Verb::Reserve => Ok(Call::Edit(Edit::Reserve(half(a)?))),
         _ => Err(Complaint::WordCount),
     }
 }
 
 // A call of a fixed number of words.
+#[tactic(auto, using(crate::proofs::Words::length_texts))]
 fn plain_call(verb: Verb, words: &[&str]) -> Result<Call, Complaint>
     ensures verb { IfOk result (λ x. call_verb x ≡ verb) }
     ensures reads { (pool : List ℕ) → IfOk result (λ x. CallFrom x (texts_of words.now) pool) }
+    ensures refuses { verb ≢ UnitVerb → verb ≢ SetVerb → IfErr result (λ e. NoCall verb (texts_of words.now) e) }
 {
-    match words.len() {
-        1 => one_word(verb, words[0]),
-        2 => two_words(verb, words[0], words[1]),
-        3 => three_words(verb, words[0], words[1], words[2]),
-        4 => four_words(verb, words[0], words[1], words[2], words[3]),
+    match (words, verb) {
+        ([unit], Verb::Reserve) => Ok(Call::Edit(Edit::Reserve(number(unit)?))),
+        ([unit, entry], _) => two_words(verb, unit, entry),
+        ([unit, entry, last], _) => three_words(verb, unit, entry, last),
+        ([unit, entry, parent, tag], Verb::AddReserved) => Ok(Call::Edit(Edit::AddReserved {
+            entry: entry_name(unit, entry)?,
+            parent: entry_name(unit, parent)?,
+            tag: number(tag)?,
+        })),
         _ => Err(Complaint::WordCount),
     }
 }
 
-// A unit without a line program.
-fn bare_unit(a: &str, b: &str, c: &str, d: &str) -> Result<Call, Complaint>
-    ensures verb { IfOk result (λ x. call_verb x ≡ UnitVerb) }
-    ensures reads { (pool : List ℕ) → IfOk result (λ x. CallFrom x (a.now ∷ b.now ∷ c.now ∷ d.now ∷ []) pool) }
-{
-    match d {
-        "none" => Ok(Call::Edit(Edit::Unit(encoding(a, b, c)?, LineProgram::None))),
-        _ => Err(Complaint::BadLineProgram),
-    }
-}
-
-// A unit with a line program.
-fn lined_unit(a: &str, b: &str, c: &str, d: &str, e: &str) -> Result<Call, Complaint>
-    ensures verb { IfOk result (λ x. call_verb x ≡ UnitVerb) }
-    ensures reads { (pool : List ℕ) → IfOk result (λ x. CallFrom x (a.now ∷ b.now ∷ c.now ∷ d.now ∷ e.now ∷ []) pool) }
-{
-    Ok(Call::Edit(Edit::Unit(encoding(a, b, c)?, line_program(d, e)?)))
-}
-
 // A new unit.
+#[tactic(auto, using(crate::proofs::Words::length_texts))]
 fn unit_call(words: &[&str]) -> Result<Call, Complaint>
     ensures verb { IfOk result (λ x. call_verb x ≡ UnitVerb) }
     ensures reads { (pool : List ℕ) → IfOk result (λ x. CallFrom x (texts_of words.now) pool) }
+    ensures refuses { IfErr result (λ e. NoCall UnitVerb (texts_of words.now) e) }
 {
-    match words.len() {
-        4 => bare_unit(words[0], words[1], words[2], words[3]),
-        5 => lined_unit(words[0], words[1], words[2], words[3], words[4]),
+    match words {
+        [version, bits, size, "none"] => {
+            Ok(Call::Edit(Edit::Unit(encoding(version, bits, size)?, None)))
+        }
+        [_, _, _, _] => Err(Complaint::BadLineProgram),
+        [version, bits, size, how, offset] => Ok(Call::Edit(Edit::Unit(
+            encoding(version, bits, size)?,
+            Some(line_program(how, offset)?),
+        ))),
         _ => Err(Complaint::WordCount),
     }
 }
 
 // A value for an attribute.
+#[tactic(auto, using(crate::proofs::Words::length_texts, crate::proofs::Words::text_at))]
 fn set_call(heap: Global, pool: &mut Vec<u8>, words: &[&str]) -> Result<Call, Complaint>
     ensures verb { IfOk result (λ x. call_verb x ≡ SetVerb) }
     ensures reads { IfOk result (λ x. CallFrom x (texts_of words.now) pool.new.items) }
     ensures grows { (xs : List ℕ) × (pool.new.items ≡ pool.old.items ++ xs) }
+    ensures refuses { IfErr result (λ e. NoCall SetVerb (texts_of words.now) e) }
 {
-    if words.len() < 4 {
+    let [unit, entry, name, kind, rest @ ..] = words else {
         return Err(Complaint::WordCount);
-    }
-    let entry = entry_name(words[0], words[1])?;
-    let name = short(words[2])?;
-    let Some(kind) = kind_named(words[3]) else {
-        return Err(Complaint::UnknownValue);
     };
-    let value = kind_value(heap, pool, kind, &words[4..])?;
+    let entry = entry_name(unit, entry)?;
+    let name = number(name)?;
+    let kind: Kind = named(kind).ok_or(Complaint::UnknownValue)?;
+    let value = kind_value(heap, pool, kind, rest)?;
     Ok(Call::Edit(Edit::Set { entry, name, value }))
 }
 
@@ -196,6 +155,7 @@ fn verb_call(
     ensures verb { IfOk result (λ x. call_verb x ≡ verb) }
     ensures reads { IfOk result (λ x. CallFrom x (texts_of words.now) pool.new.items) }
     ensures grows { (xs : List ℕ) × (pool.new.items ≡ pool.old.items ++ xs) }
+    ensures refuses { IfErr result (λ e. NoCall verb (texts_of words.now) e) }
 {
     match verb {
         Verb::Unit => unit_call(words),
@@ -209,9 +169,8 @@ pub fn call(heap: Global, pool: &mut Vec<u8>, name: &str, words: &[&str]) -> Res
     ensures verb { IfOk result (λ x. word_of (call_verb x) ≡ name.now) }
     ensures reads { IfOk result (λ x. CallFrom x (texts_of words.now) pool.new.items) }
     ensures grows { (xs : List ℕ) × (pool.new.items ≡ pool.old.items ++ xs) }
+    ensures refuses { IfErr result (λ e. NotRead name.now (texts_of words.now) e) }
 {
-    let Some(verb) = verb_named(name) else {
-        return Err(Complaint::UnknownWord);
-    };
+    let verb: Verb = named(name).ok_or(Complaint::UnknownWord)?;
     verb_call(heap, pool, verb, words)
 }

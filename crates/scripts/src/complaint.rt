@@ -3,11 +3,12 @@ ghost use Rattle.scripts.specs.Complaints.{text_of};
 ghost use Rattle.scripts.specs.declared.complaint.Complaint.TheVariants.{NoMemory, Word};
 
 use std::alloc::{AllocError, AllocFailed};
+use std::error::Error;
 use std::fmt;
 use texts::BadWord;
 
 // What is wrong with a line.
-#[derive(Clone, Copy)]
+#[derive(Clone, Copy, Debug, PartialEq, Eq)]
 pub enum Complaint {
     UnknownWord,
     WordCount,
@@ -52,6 +53,8 @@ impl fmt::Display for Complaint {
         f.write_str(self.text())
     }
 }
+
+impl Error for Complaint {}
 
 impl From<AllocError> for Complaint {
     ghost from_gives = { λ _ r. r ≡ NoMemory };

@@ -1,8 +1,11 @@
-ghost use Rattle.std.specs.Prelude.{◌≡◌, MatchOption};
-ghost use Rattle.scripts.specs.Kinds.{word_of, NoKind};
+ghost use Rattle.std.specs.Prelude.{◌≡◌};
+ghost use Rattle.scripts.specs.Kinds.{word_of, in_all};
+ghost use Rattle.scripts.specs.declared.kind.TheConstants.{KINDS};
+
+use texts::Word;
 
 // What kind of value an attribute has, as a script says it.
-#[derive(Clone, Copy)]
+#[derive(Clone, Copy, Debug, PartialEq, Eq)]
 pub enum Kind {
     Address,
     AddressSymbol,
@@ -46,58 +49,6 @@ pub enum Kind {
     Ordering,
     FileIndexNone,
     FileIndex,
-}
-
-impl Kind {
-    // The word for it.
-    pub fn word(self) -> &'static str
-        ensures { result.now ≡ word_of self }
-    {
-        match self {
-            Kind::Address => "address",
-            Kind::AddressSymbol => "address_symbol",
-            Kind::Block => "block",
-            Kind::Data1 => "data1",
-            Kind::Data2 => "data2",
-            Kind::Data4 => "data4",
-            Kind::Data8 => "data8",
-            Kind::Data16 => "data16",
-            Kind::Sdata => "sdata",
-            Kind::Udata => "udata",
-            Kind::ImplicitConst => "implicit_const",
-            Kind::Exprloc => "exprloc",
-            Kind::Flag => "flag",
-            Kind::FlagPresent => "flag_present",
-            Kind::UnitRef => "unit_ref",
-            Kind::InfoRefSymbol => "info_ref_symbol",
-            Kind::InfoRef => "info_ref",
-            Kind::InfoRefSup => "info_ref_sup",
-            Kind::LineProgramRef => "line_program_ref",
-            Kind::LocListRef => "loc_list_ref",
-            Kind::MacinfoRef => "macinfo_ref",
-            Kind::MacroRef => "macro_ref",
-            Kind::RangeListRef => "range_list_ref",
-            Kind::TypesRef => "types_ref",
-            Kind::StringRef => "string_ref",
-            Kind::StrRefSup => "str_ref_sup",
-            Kind::LineStringRef => "line_string_ref",
-            Kind::String => "string",
-            Kind::Encoding => "encoding",
-            Kind::DecimalSign => "decimal_sign",
-            Kind::Endianity => "endianity",
-            Kind::Accessibility => "accessibility",
-            Kind::Visibility => "visibility",
-            Kind::Virtuality => "virtuality",
-            Kind::Language => "language",
-            Kind::AddressClass => "address_class",
-            Kind::IdentifierCase => "identifier_case",
-            Kind::CallingConvention => "calling_convention",
-            Kind::Inline => "inline",
-            Kind::Ordering => "ordering",
-            Kind::FileIndexNone => "file_index_none",
-            Kind::FileIndex => "file_index",
-        }
-    }
 }
 
 const KINDS: [Kind; 42] = [
@@ -145,14 +96,62 @@ const KINDS: [Kind; 42] = [
     Kind::FileIndex,
 ];
 
-// The kind that a word says.
-pub fn kind_named(word: &str) -> Option<Kind>
-    ensures { MatchOption result (NoKind word.now) (λ v. word_of v ≡ word.now) }
-{
-    for it in KINDS {
-        if it.word() == word {
-            return Some(it);
+impl Word for Kind {
+    ghost text = { word_of };
+
+    ghost all = { KINDS };
+
+    // A match and no table of pairs: `all` lends the kinds alone, so pairs would list them once more.
+    fn word(self) -> &'static str {
+        match self {
+            Kind::Address => "address",
+            Kind::AddressSymbol => "address_symbol",
+            Kind::Block => "block",
+            Kind::Data1 => "data1",
+            Kind::Data2 => "data2",
+            Kind::Data4 => "data4",
+            Kind::Data8 => "data8",
+            Kind::Data16 => "data16",
+            Kind::Sdata => "sdata",
+            Kind::Udata => "udata",
+            Kind::ImplicitConst => "implicit_const",
+            Kind::Exprloc => "exprloc",
+            Kind::Flag => "flag",
+            Kind::FlagPresent => "flag_present",
+            Kind::UnitRef => "unit_ref",
+            Kind::InfoRefSymbol => "info_ref_symbol",
+            Kind::InfoRef => "info_ref",
+            Kind::InfoRefSup => "info_ref_sup",
+            Kind::LineProgramRef => "line_program_ref",
+            Kind::LocListRef => "loc_list_ref",
+            Kind::MacinfoRef => "macinfo_ref",
+            Kind::MacroRef => "macro_ref",
+            Kind::RangeListRef => "range_list_ref",
+            Kind::TypesRef => "types_ref",
+            Kind::StringRef => "string_ref",
+            Kind::StrRefSup => "str_ref_sup",
+            Kind::LineStringRef => "line_string_ref",
+            Kind::String => "string",
+            Kind::Encoding => "encoding",
+            Kind::DecimalSign => "decimal_sign",
+            Kind::Endianity => "endianity",
+            Kind::Accessibility => "accessibility",
+            Kind::Visibility => "visibility",
+            Kind::Virtuality => "virtuality",
+            Kind::Language => "language",
+            Kind::AddressClass => "address_class",
+            Kind::IdentifierCase => "identifier_case",
+            Kind::CallingConvention => "calling_convention",
+            Kind::Inline => "inline",
+            Kind::Ordering => "ordering",
+            Kind::FileIndexNone => "file_index_none",
+            Kind::FileIndex => "file_index",
         }
     }
-    None
+
+    fn all() -> &'static [Kind] {
+        &KINDS
+    }
+
+    ghost complete = { in_all };
 }

@@ -57,56 +57,56 @@ pub fn kind_of(value: AttributeValue) -> Kind
     }
 }
 
-// What a value holds, its kind apart.
+// What a value holds, its kind apart. Kind and payload are two sides of one value, so that neither is a `From` of it.
 pub fn payload(value: AttributeValue) -> Payload
     ensures { result ≡ payload_of value }
 {
     match value {
-        AttributeValue::Address(Address::Constant(n)) => Payload::Number(n),
-        AttributeValue::Address(Address::Symbol { symbol, addend }) => Payload::Symbol(
-            symbol, addend,
-        ),
-        AttributeValue::DebugInfoRef(DebugInfoRef::Symbol(symbol)) => Payload::Number(
-            symbol as u64,
-        ),
-        AttributeValue::DebugInfoRef(DebugInfoRef::Entry(id)) => Payload::Entry(id),
-        AttributeValue::FileIndex(None) => Payload::Nothing,
-        AttributeValue::FileIndex(Some(n)) => Payload::Number(n as u64),
+        AttributeValue::FlagPresent
+        | AttributeValue::LineProgramRef
+        | AttributeValue::FileIndex(None) => Payload::Nothing,
+        AttributeValue::Flag(b) => Payload::Number(u64::from(b)),
+        AttributeValue::Data1(n)
+        | AttributeValue::Encoding(n)
+        | AttributeValue::DecimalSign(n)
+        | AttributeValue::Endianity(n)
+        | AttributeValue::Accessibility(n)
+        | AttributeValue::Visibility(n)
+        | AttributeValue::Virtuality(n)
+        | AttributeValue::IdentifierCase(n)
+        | AttributeValue::CallingConvention(n)
+        | AttributeValue::Inline(n)
+        | AttributeValue::Ordering(n) => Payload::Number(u64::from(n)),
+        AttributeValue::Data2(n) | AttributeValue::Language(n) => Payload::Number(u64::from(n)),
+        AttributeValue::Data4(n) | AttributeValue::FileIndex(Some(n)) => {
+            Payload::Number(u64::from(n))
+        }
+        AttributeValue::Address(Address::Constant(n))
+        | AttributeValue::Data8(n)
+        | AttributeValue::Udata(n)
+        | AttributeValue::DebugInfoRefSup(n)
+        | AttributeValue::LocationListRef(n)
+        | AttributeValue::DebugMacinfoRef(n)
+        | AttributeValue::DebugMacroRef(n)
+        | AttributeValue::RangeListRef(n)
+        | AttributeValue::DebugTypesRef(n)
+        | AttributeValue::StringRef(n)
+        | AttributeValue::DebugStrRefSup(n)
+        | AttributeValue::LineStringRef(n)
+        | AttributeValue::AddressClass(n) => Payload::Number(n),
+        AttributeValue::Sdata(n) | AttributeValue::ImplicitConst(n) => Payload::Signed(n),
         AttributeValue::Data16 { high, low } => Payload::Pair(high, low),
-        AttributeValue::Flag(b) => Payload::Number(b as u64),
-        AttributeValue::Block(span) => Payload::Bytes(span),
-        AttributeValue::Data1(n) => Payload::Number(n as u64),
-        AttributeValue::Data2(n) => Payload::Number(n as u64),
-        AttributeValue::Data4(n) => Payload::Number(n as u64),
-        AttributeValue::Data8(n) => Payload::Number(n),
-        AttributeValue::Sdata(n) => Payload::Signed(n),
-        AttributeValue::Udata(n) => Payload::Number(n),
-        AttributeValue::ImplicitConst(n) => Payload::Signed(n),
-        AttributeValue::Exprloc(span) => Payload::Bytes(span),
-        AttributeValue::FlagPresent => Payload::Nothing,
-        AttributeValue::UnitRef(id) => Payload::Entry(id),
-        AttributeValue::DebugInfoRefSup(n) => Payload::Number(n),
-        AttributeValue::LineProgramRef => Payload::Nothing,
-        AttributeValue::LocationListRef(n) => Payload::Number(n),
-        AttributeValue::DebugMacinfoRef(n) => Payload::Number(n),
-        AttributeValue::DebugMacroRef(n) => Payload::Number(n),
-        AttributeValue::RangeListRef(n) => Payload::Number(n),
-        AttributeValue::DebugTypesRef(n) => Payload::Number(n),
-        AttributeValue::StringRef(n) => Payload::Number(n),
-        AttributeValue::DebugStrRefSup(n) => Payload::Number(n),
-        AttributeValue::LineStringRef(n) => Payload::Number(n),
-        AttributeValue::String(span) => Payload::Bytes(span),
-        AttributeValue::Encoding(n) => Payload::Number(n as u64),
-        AttributeValue::DecimalSign(n) => Payload::Number(n as u64),
-        AttributeValue::Endianity(n) => Payload::Number(n as u64),
-        AttributeValue::Accessibility(n) => Payload::Number(n as u64),
-        AttributeValue::Visibility(n) => Payload::Number(n as u64),
-        AttributeValue::Virtuality(n) => Payload::Number(n as u64),
-        AttributeValue::Language(n) => Payload::Number(n as u64),
-        AttributeValue::AddressClass(n) => Payload::Number(n),
-        AttributeValue::IdentifierCase(n) => Payload::Number(n as u64),
-        AttributeValue::CallingConvention(n) => Payload::Number(n as u64),
-        AttributeValue::Inline(n) => Payload::Number(n as u64),
-        AttributeValue::Ordering(n) => Payload::Number(n as u64),
+        AttributeValue::Address(Address::Symbol { symbol, addend }) => {
+            Payload::Symbol(symbol, addend)
+        }
+        AttributeValue::DebugInfoRef(DebugInfoRef::Symbol(symbol)) => {
+            Payload::Number(symbol as u64)
+        }
+        AttributeValue::Block(span)
+        | AttributeValue::Exprloc(span)
+        | AttributeValue::String(span) => Payload::Bytes(span),
+        AttributeValue::UnitRef(id) | AttributeValue::DebugInfoRef(DebugInfoRef::Entry(id)) => {
+            Payload::Entry(id)
+        }
     }
 }

@@ -20,7 +20,7 @@ pub use complaint::Complaint;
 pub use kind::Kind;
 pub use kinds::{kind_of, payload as payload_of};
 pub use line::{Line, Opening};
-pub use lines::line as read_line;
+pub use lines::read_line;
 pub use payload::Payload;
 pub use row::{Row, name_in};
 pub use value::{EntryName, Value};

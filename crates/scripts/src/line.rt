@@ -1,5 +1,4 @@
 use crate::call::Call;
-use crate::complaint::Complaint;
 use numbers::RunTimeEndian;
 
 // How a session begins: its name, its byte order, and how many records its table is given.
@@ -15,9 +14,9 @@ pub struct Opening {
 // What a line of a script says.
 #[derive(Drop)]
 pub enum Line {
+    // Nothing is said: one case of a line as the others, and no `Option` around them.
     Empty,
     Session(Opening),
     End,
     Call(Call),
-    Bad(Complaint),
 }

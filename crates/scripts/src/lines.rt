@@ -1,89 +1,76 @@
-ghost use Rattle.std.specs.Prelude.{◌≡◌, min, IfOk, Some};
+ghost use Rattle.std.specs.Prelude.{◌≡◌, ℕ, min, IfOk, List, [], ◌∷◌, ◌++◌, Some};
 ghost use Rattle.texts.specs.Texts.{number_of};
-ghost use Rattle.scripts.specs.Lines.{Records, order_word};
+ghost use Rattle.scripts.specs.Lines.{Records, OpeningFrom, LineSays};
+ghost use Rattle.scripts.specs.Values.{texts_of};
 
 use crate::call::Call;
 use crate::calls::call;
 use crate::complaint::Complaint;
 use crate::line::{Line, Opening};
-use numbers::RunTimeEndian;
 use std::alloc::Global;
-use texts::index;
-
-// The most records of each kind that a table uses.
-const UNITS: usize = 64;
-
-const ENTRIES: usize = 65535;
-
-const ATTRIBUTES: usize = 65535;
+use texts::number;
+use trees::table::{MAX_ATTRIBUTES, MAX_ENTRIES, MAX_UNITS};
 
 // So many records, cut to the most.
 fn records(text: &str, most: usize) -> Result<usize, Complaint>
     ensures { IfOk result (Records text.now most) }
 {
-    let n = index(text)?;
-    if n > most { Ok(most) } else { Ok(n) }
+    Ok(number::<usize>(text)?.min(most))
 }
 
-// A byte order.
-fn endian(text: &str) -> Result<RunTimeEndian, Complaint>
-    ensures { IfOk result (λ x. text.now ≡ order_word x) }
+// A session whose table has the most records.
+fn full(heap: Global, name: &str, order: &str) -> Result<Opening, Complaint>
+    ensures { IfOk result (λ x. OpeningFrom x (name.now ∷ order.now ∷ [])) }
 {
-    match text {
-        "little" => Ok(RunTimeEndian::Little),
-        "big" => Ok(RunTimeEndian::Big),
-        _ => Err(Complaint::BadSession),
-    }
+    Ok(Opening {
+        name: String::from_str(heap, name)?,
+        endian: order.parse().map_err(|_| Complaint::BadSession)?,
+        units: MAX_UNITS,
+        entries: MAX_ENTRIES,
+        attributes: MAX_ATTRIBUTES,
+    })
 }
 
 // How a session begins.
-fn opening(heap: Global, words: &[&str]) -> Result<Opening, Complaint> {
+fn opening(heap: Global, words: &[&str]) -> Result<Opening, Complaint>
+    ensures { IfOk result (λ x. OpeningFrom x (texts_of words.now)) }
+{
     match words {
-        [name, order] => Ok(Opening {
-            name: String::from_str(heap, name)?,
-            endian: endian(order)?,
-            units: UNITS,
-            entries: ENTRIES,
-            attributes: ATTRIBUTES,
-        }),
-        [name, order, units, entries, attributes] => Ok(Opening {
-            name: String::from_str(heap, name)?,
-            endian: endian(order)?,
-            units: records(units, UNITS)?,
-            entries: records(entries, ENTRIES)?,
-            attributes: records(attributes, ATTRIBUTES)?,
-        }),
+        [name, order] => full(heap, name, order),
+        [name, order, units, entries, attributes] => {
+            let most = full(heap, name, order)?;
+            Ok(Opening {
+                units: records(units, most.units)?,
+                entries: records(entries, most.entries)?,
+                attributes: records(attributes, most.attributes)?,
+                ..most
+            })
+        }
         _ => Err(Complaint::WordCount),
     }
 }
 
 // What the words of a line say.
-fn said(heap: Global, pool: &mut Vec<u8>, text: &str) -> Result<Line, Complaint> {
-    let words: Vec<&str> = text.split_whitespace().collect(heap)?;
-    let Some(name) = words.first() else {
-        return Ok(Line::Empty);
-    };
-    if name.starts_with('#') {
-        return Ok(Line::Empty);
-    }
-    let rest = &words.as_slice()[1..];
-    match *name {
-        "session" => Ok(Line::Session(opening(heap, rest)?)),
-        "end" => {
-            if rest.is_empty() {
-                Ok(Line::End)
-            } else {
-                Err(Complaint::WordCount)
-            }
-        }
-        _ => Ok(Line::Call(call(heap, pool, name, rest)?)),
+#[tactic(auto, using(crate::proofs::Words::texts_from))]
+fn words_line(heap: Global, pool: &mut Vec<u8>, words: &[&str]) -> Result<Line, Complaint>
+    ensures says { IfOk result (λ x. LineSays x (texts_of words.now) pool.new.items) }
+    ensures grows { (xs : List ℕ) × (pool.new.items ≡ pool.old.items ++ xs) }
+{
+    match words {
+        [] => Ok(Line::Empty),
+        [name, ..] if name.starts_with('#') => Ok(Line::Empty),
+        ["session", rest @ ..] => Ok(Line::Session(opening(heap, rest)?)),
+        ["end"] => Ok(Line::End),
+        ["end", ..] => Err(Complaint::WordCount),
+        [name, rest @ ..] => Ok(Line::Call(call(heap, pool, name, rest)?)),
     }
 }
 
-// The same, with what is wrong as a line of its own.
-pub fn line(heap: Global, pool: &mut Vec<u8>, text: &str) -> Line {
-    match said(heap, pool, text) {
-        Ok(line) => line,
-        Err(complaint) => Line::Bad(complaint),
-    }
+// What a line says. Bytes go to the end of the pool.
+pub fn read_line(heap: Global, pool: &mut Vec<u8>, text: &str) -> Result<Line, Complaint>
+    ensures says { IfOk result (λ x. (ws : List (List ℕ)) × LineSays x ws pool.new.items) }
+    ensures grows { (xs : List ℕ) × (pool.new.items ≡ pool.old.items ++ xs) }
+{
+    let words: Vec<&str> = text.split_whitespace().collect(heap)?;
+    words_line(heap, pool, words.as_slice())
 }

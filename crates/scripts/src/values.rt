@@ -1,7 +1,8 @@
-ghost use Rattle.std.specs.Prelude.{◌≡◌, ℕ, List, [], ◌∷◌, ◌++◌, IfOk, MatchResult, Some};
-ghost use Rattle.scripts.specs.Complaints.{NoFlag, NoEntryName};
+ghost use Rattle.std.specs.Prelude.{◌≡◌, ℕ, false, List, [], ◌∷◌, ◌++◌, IfOk, IfErr, MatchResult, Some};
+ghost use Rattle.scripts.specs.Complaints.{NoFlag, NoEntryName, NoValue};
 ghost use Rattle.texts.specs.Texts.{number_of, bytes_named};
-ghost use Rattle.scripts.specs.Kinds.{kind_of};
+ghost use Rattle.scripts.specs.declared.kind.Kind.TheVariants.{Block as BlockKind};
+ghost use Rattle.scripts.specs.Kinds.{kind_of, is_bytes};
 ghost use Rattle.scripts.specs.Values.{bit, bytes_at, PlainFrom, value_kind, ValueFrom, texts_of};
 
 use crate::complaint::Complaint;
@@ -9,14 +10,14 @@ use crate::kind::Kind;
 use crate::value::{EntryName, Value};
 use numbers::Address;
 use std::alloc::Global;
-use texts::{byte, bytes, half, index, short, whole, wide};
+use texts::{bytes, number, whole};
 use trees::{AttributeValue, DebugInfoRef, Span};
 
 // A flag, 0 or 1.
 pub fn flag(text: &str) -> Result<bool, Complaint>
     ensures { MatchResult result (λ b. number_of text.now ≡ Some (bit b)) (NoFlag (number_of text.now)) }
 {
-    match wide(text)? {
+    match number::<u64>(text)? {
         0 => Ok(false),
         1 => Ok(true),
         _ => Err(Complaint::BadFlag),
@@ -27,6 +28,7 @@ pub fn flag(text: &str) -> Result<bool, Complaint>
 fn pooled(heap: Global, pool: &mut Vec<u8>, text: &str) -> Result<Span, Complaint>
     ensures grows { (xs : List ℕ) × (pool.new.items ≡ pool.old.items ++ xs) }
     ensures bytes { IfOk result (λ s. bytes_named text.now ≡ Some (bytes_at pool.new.items s)) }
+    ensures refuses { IfErr result (λ e. NoValue BlockKind (text.now ∷ []) e) }
 {
     let start = pool.len();
     let read = bytes(heap, text)?;
@@ -37,65 +39,46 @@ fn pooled(heap: Global, pool: &mut Vec<u8>, text: &str) -> Result<Span, Complain
     })
 }
 
-// A value of 64 bits.
-fn wide_value(kind: Kind, a: &str) -> Result<AttributeValue, Complaint>
-    ensures kind { IfOk result (λ v. kind_of v ≡ kind) }
-    ensures reads { (pool : List ℕ) → IfOk result (λ v. PlainFrom v (a.now ∷ []) pool) }
-{
-    match kind {
-        Kind::Address => Ok(AttributeValue::Address(Address::Constant(wide(a)?))),
-        Kind::Data8 => Ok(AttributeValue::Data8(wide(a)?)),
-        Kind::Udata => Ok(AttributeValue::Udata(wide(a)?)),
-        Kind::InfoRefSup => Ok(AttributeValue::DebugInfoRefSup(wide(a)?)),
-        Kind::LocListRef => Ok(AttributeValue::LocationListRef(wide(a)?)),
-        Kind::MacinfoRef => Ok(AttributeValue::DebugMacinfoRef(wide(a)?)),
-        Kind::MacroRef => Ok(AttributeValue::DebugMacroRef(wide(a)?)),
-        Kind::RangeListRef => Ok(AttributeValue::RangeListRef(wide(a)?)),
-        Kind::TypesRef => Ok(AttributeValue::DebugTypesRef(wide(a)?)),
-        Kind::StringRef => Ok(AttributeValue::StringRef(wide(a)?)),
-        Kind::StrRefSup => Ok(AttributeValue::DebugStrRefSup(wide(a)?)),
-        Kind::LineStringRef => Ok(AttributeValue::LineStringRef(wide(a)?)),
-        Kind::AddressClass => Ok(AttributeValue::AddressClass(wide(a)?)),
-        _ => Err(Complaint::WordCount),
-    }
-}
-
-// A value of 8 bits.
-fn byte_value(kind: Kind, a: &str) -> Result<AttributeValue, Complaint>
-    ensures kind { IfOk result (λ v. kind_of v ≡ kind) }
-    ensures reads { (pool : List ℕ) → IfOk result (λ v. PlainFrom v (a.now ∷ []) pool) }
-{
-    match kind {
-        Kind::Data1 => Ok(AttributeValue::Data1(byte(a)?)),
-        Kind::Encoding => Ok(AttributeValue::Encoding(byte(a)?)),
-        Kind::DecimalSign => Ok(AttributeValue::DecimalSign(byte(a)?)),
-        Kind::Endianity => Ok(AttributeValue::Endianity(byte(a)?)),
-        Kind::Accessibility => Ok(AttributeValue::Accessibility(byte(a)?)),
-        Kind::Visibility => Ok(AttributeValue::Visibility(byte(a)?)),
-        Kind::Virtuality => Ok(AttributeValue::Virtuality(byte(a)?)),
-        Kind::IdentifierCase => Ok(AttributeValue::IdentifierCase(byte(a)?)),
-        Kind::CallingConvention => Ok(AttributeValue::CallingConvention(byte(a)?)),
-        Kind::Inline => Ok(AttributeValue::Inline(byte(a)?)),
-        Kind::Ordering => Ok(AttributeValue::Ordering(byte(a)?)),
-        _ => wide_value(kind, a),
-    }
-}
-
 // A value of one word that is no bytes.
 fn one_value(kind: Kind, a: &str) -> Result<AttributeValue, Complaint>
     ensures kind { IfOk result (λ v. kind_of v ≡ kind) }
     ensures reads { (pool : List ℕ) → IfOk result (λ v. PlainFrom v (a.now ∷ []) pool) }
+    ensures refuses { is_bytes kind ≡ false → IfErr result (λ e. NoValue kind (a.now ∷ []) e) }
 {
     match kind {
-        Kind::Data2 => Ok(AttributeValue::Data2(short(a)?)),
-        Kind::Language => Ok(AttributeValue::Language(short(a)?)),
-        Kind::Data4 => Ok(AttributeValue::Data4(half(a)?)),
-        Kind::FileIndex => Ok(AttributeValue::FileIndex(Some(half(a)?))),
+        Kind::Address => Ok(AttributeValue::Address(Address::Constant(number(a)?))),
+        Kind::Data1 => Ok(AttributeValue::Data1(number(a)?)),
+        Kind::Data2 => Ok(AttributeValue::Data2(number(a)?)),
+        Kind::Data4 => Ok(AttributeValue::Data4(number(a)?)),
+        Kind::Data8 => Ok(AttributeValue::Data8(number(a)?)),
         Kind::Sdata => Ok(AttributeValue::Sdata(whole(a)?)),
+        Kind::Udata => Ok(AttributeValue::Udata(number(a)?)),
         Kind::ImplicitConst => Ok(AttributeValue::ImplicitConst(whole(a)?)),
         Kind::Flag => Ok(AttributeValue::Flag(flag(a)?)),
-        Kind::InfoRefSymbol => Ok(AttributeValue::DebugInfoRef(DebugInfoRef::Symbol(index(a)?))),
-        _ => byte_value(kind, a),
+        Kind::InfoRefSymbol => Ok(AttributeValue::DebugInfoRef(DebugInfoRef::Symbol(number(a)?))),
+        Kind::InfoRefSup => Ok(AttributeValue::DebugInfoRefSup(number(a)?)),
+        Kind::LocListRef => Ok(AttributeValue::LocationListRef(number(a)?)),
+        Kind::MacinfoRef => Ok(AttributeValue::DebugMacinfoRef(number(a)?)),
+        Kind::MacroRef => Ok(AttributeValue::DebugMacroRef(number(a)?)),
+        Kind::RangeListRef => Ok(AttributeValue::RangeListRef(number(a)?)),
+        Kind::TypesRef => Ok(AttributeValue::DebugTypesRef(number(a)?)),
+        Kind::StringRef => Ok(AttributeValue::StringRef(number(a)?)),
+        Kind::StrRefSup => Ok(AttributeValue::DebugStrRefSup(number(a)?)),
+        Kind::LineStringRef => Ok(AttributeValue::LineStringRef(number(a)?)),
+        Kind::Encoding => Ok(AttributeValue::Encoding(number(a)?)),
+        Kind::DecimalSign => Ok(AttributeValue::DecimalSign(number(a)?)),
+        Kind::Endianity => Ok(AttributeValue::Endianity(number(a)?)),
+        Kind::Accessibility => Ok(AttributeValue::Accessibility(number(a)?)),
+        Kind::Visibility => Ok(AttributeValue::Visibility(number(a)?)),
+        Kind::Virtuality => Ok(AttributeValue::Virtuality(number(a)?)),
+        Kind::Language => Ok(AttributeValue::Language(number(a)?)),
+        Kind::AddressClass => Ok(AttributeValue::AddressClass(number(a)?)),
+        Kind::IdentifierCase => Ok(AttributeValue::IdentifierCase(number(a)?)),
+        Kind::CallingConvention => Ok(AttributeValue::CallingConvention(number(a)?)),
+        Kind::Inline => Ok(AttributeValue::Inline(number(a)?)),
+        Kind::Ordering => Ok(AttributeValue::Ordering(number(a)?)),
+        Kind::FileIndex => Ok(AttributeValue::FileIndex(Some(number(a)?))),
+        _ => Err(Complaint::WordCount),
     }
 }
 
@@ -103,6 +86,7 @@ fn one_value(kind: Kind, a: &str) -> Result<AttributeValue, Complaint>
 fn bare_value(kind: Kind) -> Result<Value, Complaint>
     ensures kind { IfOk result (λ v. value_kind v ≡ kind) }
     ensures reads { (pool : List ℕ) → IfOk result (λ v. ValueFrom v [] pool) }
+    ensures refuses { IfErr result (λ e. NoValue kind [] e) }
 {
     match kind {
         Kind::FlagPresent => Ok(Value::Plain(AttributeValue::FlagPresent)),
@@ -117,6 +101,7 @@ fn word_value(heap: Global, pool: &mut Vec<u8>, kind: Kind, a: &str) -> Result<V
     ensures kind { IfOk result (λ v. value_kind v ≡ kind) }
     ensures reads { IfOk result (λ v. ValueFrom v (a.now ∷ []) pool.new.items) }
     ensures grows { (xs : List ℕ) × (pool.new.items ≡ pool.old.items ++ xs) }
+    ensures refuses { IfErr result (λ e. NoValue kind (a.now ∷ []) e) }
 {
     match kind {
         Kind::Block => Ok(Value::Plain(AttributeValue::Block(pooled(heap, pool, a)?))),
@@ -131,8 +116,8 @@ pub fn entry_name(unit: &str, entry: &str) -> Result<EntryName, Complaint>
     ensures { MatchResult result (λ x. (number_of unit.now ≡ Some x.unit) × (number_of entry.now ≡ Some x.entry)) (NoEntryName (number_of unit.now) (number_of entry.now)) }
 {
     Ok(EntryName {
-        unit: half(unit)?,
-        entry: index(entry)?,
+        unit: number(unit)?,
+        entry: number(entry)?,
     })
 }
 
@@ -140,15 +125,16 @@ pub fn entry_name(unit: &str, entry: &str) -> Result<EntryName, Complaint>
 fn pair_value(kind: Kind, a: &str, b: &str) -> Result<Value, Complaint>
     ensures kind { IfOk result (λ v. value_kind v ≡ kind) }
     ensures reads { (pool : List ℕ) → IfOk result (λ v. ValueFrom v (a.now ∷ b.now ∷ []) pool) }
+    ensures refuses { IfErr result (λ e. NoValue kind (a.now ∷ b.now ∷ []) e) }
 {
     match kind {
         Kind::AddressSymbol => Ok(Value::Plain(AttributeValue::Address(Address::Symbol {
-            symbol: index(a)?,
+            symbol: number(a)?,
             addend: whole(b)?,
         }))),
         Kind::Data16 => Ok(Value::Plain(AttributeValue::Data16 {
-            high: wide(a)?,
-            low: wide(b)?,
+            high: number(a)?,
+            low: number(b)?,
         })),
         Kind::UnitRef => Ok(Value::UnitRef(entry_name(a, b)?)),
         Kind::InfoRef => Ok(Value::InfoRef(entry_name(a, b)?)),
@@ -157,6 +143,7 @@ fn pair_value(kind: Kind, a: &str, b: &str) -> Result<Value, Complaint>
 }
 
 // A value of a kind, by the words after the kind's own.
+#[tactic(auto, using(crate::proofs::Words::length_texts, crate::proofs::Words::few))]
 pub fn kind_value(
     heap: Global,
     pool: &mut Vec<u8>,
@@ -166,11 +153,12 @@ pub fn kind_value(
     ensures kind { IfOk result (λ v. value_kind v ≡ kind) }
     ensures reads { IfOk result (λ v. ValueFrom v (texts_of words.now) pool.new.items) }
     ensures grows { (xs : List ℕ) × (pool.new.items ≡ pool.old.items ++ xs) }
+    ensures refuses { IfErr result (λ e. NoValue kind (texts_of words.now) e) }
 {
-    match words.len() {
-        0 => bare_value(kind),
-        1 => word_value(heap, pool, kind, words[0]),
-        2 => pair_value(kind, words[0], words[1]),
+    match words {
+        [] => bare_value(kind),
+        [a] => word_value(heap, pool, kind, a),
+        [a, b] => pair_value(kind, a, b),
         _ => Err(Complaint::WordCount),
     }
 }

@@ -1,8 +1,11 @@
-ghost use Rattle.std.specs.Prelude.{◌≡◌, MatchOption};
-ghost use Rattle.scripts.specs.Verbs.{word_of, NoVerb};
+ghost use Rattle.std.specs.Prelude.{◌≡◌};
+ghost use Rattle.scripts.specs.Verbs.{word_of, in_all};
+ghost use Rattle.scripts.specs.declared.verb.TheConstants.{VERBS};
+
+use texts::Word;
 
 // The word that says what a line of a session asks.
-#[derive(Clone, Copy)]
+#[derive(Clone, Copy, Debug, PartialEq, Eq)]
 pub enum Verb {
     Unit,
     Reserve,
@@ -16,28 +19,6 @@ pub enum Verb {
     Attrs,
     Children,
     Entry,
-}
-
-impl Verb {
-    // The word for it.
-    pub fn word(self) -> &'static str
-        ensures { result.now ≡ word_of self }
-    {
-        match self {
-            Verb::Unit => "unit",
-            Verb::Reserve => "reserve",
-            Verb::AddReserved => "add_reserved",
-            Verb::Add => "add",
-            Verb::Set => "set",
-            Verb::Delete => "delete",
-            Verb::SetSibling => "set_sibling",
-            Verb::DeleteChild => "delete_child",
-            Verb::GiveBack => "give_back",
-            Verb::Attrs => "attrs",
-            Verb::Children => "children",
-            Verb::Entry => "entry",
-        }
-    }
 }
 
 const VERBS: [Verb; 12] = [
@@ -55,14 +36,31 @@ const VERBS: [Verb; 12] = [
     Verb::Entry,
 ];
 
-// The verb that a word says.
-pub fn verb_named(word: &str) -> Option<Verb>
-    ensures { MatchOption result (NoVerb word.now) (λ v. word_of v ≡ word.now) }
-{
-    for it in VERBS {
-        if it.word() == word {
-            return Some(it);
+impl Word for Verb {
+    ghost text = { word_of };
+
+    ghost all = { VERBS };
+
+    fn word(self) -> &'static str {
+        match self {
+            Verb::Unit => "unit",
+            Verb::Reserve => "reserve",
+            Verb::AddReserved => "add_reserved",
+            Verb::Add => "add",
+            Verb::Set => "set",
+            Verb::Delete => "delete",
+            Verb::SetSibling => "set_sibling",
+            Verb::DeleteChild => "delete_child",
+            Verb::GiveBack => "give_back",
+            Verb::Attrs => "attrs",
+            Verb::Children => "children",
+            Verb::Entry => "entry",
         }
     }
-    None
+
+    fn all() -> &'static [Verb] {
+        &VERBS
+    }
+
+    ghost complete = { in_all };
 }

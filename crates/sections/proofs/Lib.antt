@@ -1,4 +1,3 @@
 pub mod Acts
-pub mod Lengths
 pub mod Words
 pub mod Places

@@ -1,5 +1,14 @@
-use Rattle.std.specs.Prelude.{ℕ, Bool, true, false, cond, List, [], ◌∷◌, Some, None, Option, ◌==◌}
+use Rattle.std.specs.Prelude.{ℕ, Bool, true, false, cond, List, [], ◌∷◌, ◌++◌, Some, None, Option, ◌==◌, codes}
+use Rattle.std.specs.Fmt.{decimal}
+use Rattle.numbers.specs.Common.{section_name}
 use Rattle.sections.specs.declared.note.Note.{Note}
+use Rattle.sections.specs.declared.note.Target.{Target}
+use Rattle.sections.specs.declared.note.Target.TheVariants.{Section, Symbol}
+
+-- what a target is called
+abbrev pub target_name : Target → List ℕ
+target_name (Section x) = section_name x
+target_name (Symbol n) = codes "symbol " ++ decimal n
 
 -- whether a place has a note
 abbrev pub has : ℕ → List Note → Bool

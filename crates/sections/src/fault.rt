@@ -4,7 +4,7 @@ ghost use Rattle.sections.specs.Faults.{number_of, text_of};
 use std::fmt;
 
 // Why a section's writer declines a call.
-#[derive(Clone, Copy, PartialEq, Eq, Debug)]
+#[derive(Clone, Copy, Debug, PartialEq, Eq, Hash)]
 pub enum Fault {
     UnsupportedWordSize(u8),
     ValueTooLarge,
@@ -17,7 +17,7 @@ pub enum Fault {
 }
 
 impl Fault {
-    // The fault's number.
+    // The number of a fault. One fault has a size beside it, so no cast gives its number.
     pub fn number(self) -> u8
         ensures { result ≡ number_of self }
     {
@@ -32,28 +32,22 @@ impl Fault {
             Fault::NotesFull => 18,
         }
     }
-
-    // What it says.
-    fn text(self) -> &'static str
-        ensures { result.now ≡ text_of self }
-    {
-        match self {
-            Fault::UnsupportedWordSize(_) => "a word of this size is not supported",
-            Fault::ValueTooLarge => "the value is too large for its size",
-            Fault::InvalidReference => "the reference is not valid",
-            Fault::InvalidAddress => "the address is not valid",
-            Fault::OffsetOutOfBounds => "the offset is past the end of the section",
-            Fault::LengthOutOfBounds => "the bytes would pass the end of the section",
-            Fault::SectionFull => "the section is full",
-            Fault::NotesFull => "no note is left",
-        }
-    }
 }
 
+// What it says.
 impl fmt::Display for Fault {
     ghost output = { λ f. Some (text_of f) };
 
     fn fmt<W: fmt::Write>(&self, f: &mut fmt::Formatter<W>) -> fmt::Result {
-        f.write_str(self.text())
+        match self {
+            Fault::UnsupportedWordSize(_) => f.write_str("a word of this size is not supported"),
+            Fault::ValueTooLarge => f.write_str("the value is too large for its size"),
+            Fault::InvalidReference => f.write_str("the reference is not valid"),
+            Fault::InvalidAddress => f.write_str("the address is not valid"),
+            Fault::OffsetOutOfBounds => f.write_str("the offset is past the end of the section"),
+            Fault::LengthOutOfBounds => f.write_str("the bytes would pass the end of the section"),
+            Fault::SectionFull => f.write_str("the section is full"),
+            Fault::NotesFull => f.write_str("no note is left"),
+        }
     }
 }

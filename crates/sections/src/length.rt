@@ -2,7 +2,7 @@ ghost use Rattle.std.specs.Prelude.{◌≡◌};
 ghost use Rattle.sections.specs.Section.{Section, Ran};
 ghost use Rattle.sections.specs.Lengths.{escape, opened as opens, length_at, reserved_length};
 
-use super::data::{write_u32, write_udata, write_udata_at};
+use super::data::{write_number, write_udata, write_udata_at};
 use super::fault::Fault;
 use super::token::InitialLengthOffset;
 use super::writer::Writer;
@@ -29,32 +29,14 @@ impl InitialLengthOffset {
 }
 
 // What stands before a 64-bit length.
+#[tactic(auto, unfolding(crate::specs::Lengths::escape))]
 fn write_escape<W: Writer>(w: &mut W, format: Format) -> Result<(), Fault>
     ensures { Ran (escape format) (W.Writer.meaning w.old) (W.Writer.meaning w.new) result }
 {
     match format {
         Format::Dwarf32 => Ok(()),
-        Format::Dwarf64 => write_u32(w, 0xffff_ffff),
+        Format::Dwarf64 => write_number(w, 0xffff_ffff_u32),
     }
-}
-
-fn open_word<W: Writer>(w: &mut W, format: Format) -> Result<InitialLengthOffset, Fault>
-    ensures { Ran (opens format) (W.Writer.meaning w.old) (W.Writer.meaning w.new) result }
-{
-    write_escape(w, format)?;
-    let offset = w.len();
-    write_udata(w, 0, format.word_size())?;
-    Ok(InitialLengthOffset { offset, format })
-}
-
-fn fill_word<W: Writer>(w: &mut W, opened: InitialLengthOffset, length: u64) -> Result<(), Fault>
-    ensures { Ran (length_at opened length) (W.Writer.meaning w.old) (W.Writer.meaning w.new) result }
-{
-    let InitialLengthOffset { offset, format } = opened;
-    if is_reserved(format, length) {
-        return Err(Fault::ValueTooLarge);
-    }
-    write_udata_at(w, offset, length, format.word_size())
 }
 
 // Whether the standard reserves a length.
@@ -68,16 +50,21 @@ fn is_reserved(format: Format, length: u64) -> bool
 }
 
 // Opens a length word: zero for now.
+#[tactic(auto, unfolding(crate::specs::Lengths::opened, crate::specs::Lengths::opens_word))]
 pub fn write_initial_length<W: Writer>(
     w: &mut W,
     format: Format,
 ) -> Result<InitialLengthOffset, Fault>
     ensures { Ran (opens format) (W.Writer.meaning w.old) (W.Writer.meaning w.new) result }
 {
-    open_word(w, format)
+    write_escape(w, format)?;
+    let offset = w.len();
+    write_udata(w, 0, format.word_size())?;
+    Ok(InitialLengthOffset { offset, format })
 }
 
 // Fills a length word that was opened. A 32-bit length that the standard reserves is too large.
+#[tactic(auto, unfolding(crate::specs::Lengths::length_at))]
 pub fn write_initial_length_at<W: Writer>(
     w: &mut W,
     opened: InitialLengthOffset,
@@ -85,5 +72,9 @@ pub fn write_initial_length_at<W: Writer>(
 ) -> Result<(), Fault>
     ensures { Ran (length_at opened length) (W.Writer.meaning w.old) (W.Writer.meaning w.new) result }
 {
-    fill_word(w, opened, length)
+    let InitialLengthOffset { offset, format } = opened;
+    if is_reserved(format, length) {
+        return Err(Fault::ValueTooLarge);
+    }
+    write_udata_at(w, offset, length, format.word_size())
 }

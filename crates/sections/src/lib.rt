@@ -11,10 +11,7 @@ mod word;
 mod writer;
 
 pub use contents::Contents;
-pub use data::{
-    write_sleb128, write_u8, write_u8_at, write_u16, write_u16_at, write_u32, write_u32_at,
-    write_u64, write_u64_at, write_u128, write_u128_at, write_udata, write_udata_at, write_uleb128,
-};
+pub use data::{write_leb128, write_number, write_number_at, write_udata, write_udata_at};
 pub use fault::Fault;
 pub use laws::number_laws;
 pub use length::{write_initial_length, write_initial_length_at};

@@ -1,3 +1,3 @@
-pub mod Cursors
+pub mod GivingBack
 pub mod Sessions
 pub mod Times

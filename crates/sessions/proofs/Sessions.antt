@@ -1,19 +1,17 @@
 use Rattle.std.proofs.Common.{◌≡◌, ℕ, zero, suc, Bool, true, false, cond, ◌&&◌, List, [], ◌∷◌, ◌++◌, length, get_or, set, Some, None, Ok, Err, Option, Result, sym, refl, ap, ◌∙◌, subst, append_assoc, append-nil}
 use Rattle.trees.specs.declared.records.EditFault.{EditFault}
-use Rattle.trees.specs.declared.records.Reservation.{Reservation}
 use Rattle.trees.specs.declared.records.State.TheVariants.{GivenBack, TakenOut}
 use Rattle.trees.specs.Model.{Entry, Table, no_entry, unless, change, grant, place, take_out, with_entries, left, placed, adopt, abandon, flagged, amend, put, unname, entry_of, entry_id, knows, knows_both, is_waiting, first_fault, edit_checks, as_is}
 use Rattle.trees.specs.Lists.{has}
 use Rattle.trees.specs.History.{History, Stands}
 use Rattle.trees.specs.Growth.{Deeds, Grows, Tells, acts_in}
-use Rattle.scripts.specs.declared.call.Edit.{Edit}
 use Rattle.sessions.specs.declared.order.Order.{Order}
 use Rattle.sessions.specs.declared.order.Order.TheVariants as order
 use Rattle.sessions.specs.declared.order.Answer.{Answer}
 use Rattle.sessions.specs.declared.order.Answer.TheVariants as answer
-use Rattle.sessions.specs.declared.reply.Reply.{Reply}
 use Rattle.sessions.specs.Orders.{carried, act_of, deed_of}
-use Rattle.sessions.specs.Sessions.{OrderOf, Performed, Led, reply_of, unit_granted, kept_back, units_in}
+use Rattle.sessions.specs.Tables.{units_in, Leads, IsTold}
+use Rattle.sessions.specs.Sessions.{Stage, Led, unit_granted}
 
 -- one entry changed, but not its unit
 units_set : (es : List Entry) (e : ℕ) (x : Entry) → x.unit ≡ (get_or es e no_entry).unit → units_in (set es e x) ≡ units_in es
@@ -67,7 +65,7 @@ gave false t e = same (units_in t.entries) (units_in t.entries) refl
 units_carried : (t : Table) (o : Order) → units_in (carried t o).0.entries ≡ units_in t.entries ++ unit_granted (carried t o).1
 units_carried t (order.Unit encoding line) = through _ _ t _ answer.Unit (units_more t.entries _) (λ e. refl)
 units_carried t (order.Reserve u) = through _ _ t _ answer.Reserved (units_more t.entries _) (λ e. refl)
-units_carried t (order.AddReserved r p tag) = through _ _ t _ answer.ReservedAdded (same _ (units_in t.entries) (units_place t r.entry p.entry tag)) (λ e. refl)
+units_carried t (order.AddReserved r p tag) = through _ _ t _ answer.ReservedAdded (same _ (units_in t.entries) (units_place t r.id.entry p.entry tag)) (λ e. refl)
 units_carried t (order.Add p tag) = through _ _ t _ answer.Added (units_place (grant t p.unit) (length t.entries) p.entry tag ∙ units_more t.entries _) (λ e. refl)
 units_carried t (order.Set i name v) = through _ _ t _ answer.Edited (same _ (units_in t.entries) (units_change t.entries i.entry (amend (put (record { name = name; value = v }))) (λ y. refl))) (λ e. refl)
 units_carried t (order.Delete i name) = through _ _ t _ answer.Edited (same _ (units_in t.entries) (units_change t.entries i.entry (amend (unname name)) (λ y. refl))) (λ e. refl)
@@ -75,35 +73,21 @@ units_carried t (order.SetSibling i b) = through _ _ t _ answer.Edited (same _ (
 units_carried t (order.DeleteChild p c) =
     let b : Bool = has c.entry (entry_of t p.entry).children in
     through (first_fault (edit_checks t (knows_both t p c) p.unit [])) as_is t (out b t p.entry c.entry) answer.ChildDeleted (deleted b t p.entry c.entry) (λ e. refl)
-units_carried t (order.GiveBack r) = gave (knows t (entry_id r) && is_waiting (entry_of t r.entry).state) t r.entry
+units_carried t (order.GiveBack r) = gave (knows t (entry_id r) && is_waiting (entry_of t r.id.entry).state) t r.id.entry
 
--- an edit, from its parts
-pub performed : (number : ℕ) (hs₀ hs₁ hs : List ℕ) (ks₀ ks₁ ks₂ ks : List Reservation) (t t' : Table) (x : Edit) (o : Order) (a : Answer) (reply : Reply)
-    → hs₁ ≡ hs₀ → ks₁ ≡ ks₀ → OrderOf hs₁ number ks₁ ks₂ x o → (t', a) ≡ carried t o
-    → reply ≡ reply_of hs₁ a → hs ≡ hs₁ ++ unit_granted a → ks ≡ ks₂ ++ kept_back a
-    → ((h : History) → Stands h t → Stands (act_of t o ∷ h) t')
-    → ((h : Deeds) → Grows h t → Grows (deed_of t o ∷ h) t')
-    → Performed number hs₀ hs ks₀ ks t t' x reply
-performed number hs₀ hs₁ hs ks₀ ks₁ ks₂ ks t t' x o a reply eh ek means out rep more kept law growth =
-    let grants : hs ≡ hs₀ ++ unit_granted (carried t o).1 = more ∙ ap (λ l. l ++ unit_granted a) eh ∙ ap (λ p. hs₀ ++ unit_granted p.1) out in
-    record {
-      order = o;
-      unspent = ks₂;
-      means = subst (λ l. OrderOf l number ks₀ ks₂ x o) eh (subst (λ l. OrderOf hs₁ number l ks₂ x o) ek means);
-      table = ap (λ p. p.0) out;
-      replies = rep ∙ ap (λ l. reply_of l a) eh ∙ ap (λ p. reply_of hs₀ p.1) out;
-      grants = grants;
-      holds = kept ∙ ap (λ p. ks₂ ++ kept_back p.1) out;
-      law = law;
-      growth = growth;
-      units = λ e. grants ∙ ap (λ l. l ++ unit_granted (carried t o).1) e ∙ sym (units_carried t o) ∙ ap (λ p. units_in p.0.entries) (sym out);
-    }
+-- the units that are kept, after an order and its answer
+pub units_kept : (t t' : Table) (o : Order) (a : Answer) (hs hs' : List ℕ) → hs ≡ units_in t.entries → (t', a) ≡ carried t o → hs' ≡ hs ++ unit_granted a → hs' ≡ units_in t'.entries
+units_kept t t' o a hs hs' kept out more =
+    more ∙ ap (λ l. l ++ unit_granted a) kept ∙ ap (λ p. units_in t.entries ++ unit_granted p.1) out ∙ sym (units_carried t o) ∙ ap (λ p. units_in p.0.entries) (sym out)
 
-pub led_more : (hs₀ hs₁ hs₂ : List ℕ) (t₀ t₁ t₂ : Table) → Led hs₀ hs₁ t₀ t₁ → Led hs₁ hs₂ t₁ t₂ → Led hs₀ hs₂ t₀ t₂
-led_more hs₀ hs₁ hs₂ t₀ t₁ t₂ p q = record {
-  tells = λ h s. ((q.tells ((p.tells h s).0 ++ h) (p.tells h s).1).0 ++ (p.tells h s).0, subst (λ l. Tells l t₂) (sym (append_assoc (q.tells ((p.tells h s).0 ++ h) (p.tells h s).1).0 (p.tells h s).0 h)) (q.tells ((p.tells h s).0 ++ h) (p.tells h s).1).1);
-  units = λ e. q.units (p.units e);
-}
+pub leads_more : (t₀ t₁ t₂ : Table) → Leads t₀ t₁ → Leads t₁ t₂ → Leads t₀ t₂
+leads_more t₀ t₁ t₂ p q h s =
+    let one = p h s in
+    let two = q (one.0 ++ h) one.1 in
+    (two.0 ++ one.0, subst (λ l. Tells l t₂) (sym (append_assoc two.0 one.0 h)) two.1)
+
+pub led_more : (s₀ s₁ s₂ : Stage) → Led s₀ s₁ → Led s₁ s₂ → Led s₀ s₂
+led_more s₀ s₁ s₂ p q = record { tells = leads_more s₀.table s₁.table s₂.table p.tells q.tells; units = λ h. q.units (p.units h) }
 
 -- an order is one call in both histories
 acts_more : (t : Table) (o : Order) (h : Deeds) → acts_in (deed_of t o ∷ h) ≡ act_of t o ∷ acts_in h
@@ -117,8 +101,12 @@ acts_more t (order.SetSibling i b) h = refl
 acts_more t (order.DeleteChild p c) h = refl
 acts_more t (order.GiveBack r) h = refl
 
-pub led_by : (number : ℕ) (hs hs' : List ℕ) (ks ks' : List Reservation) (t t' : Table) (x : Edit) (reply : Reply) → Performed number hs hs' ks ks' t t' x reply → Led hs hs' t t'
-led_by number hs hs' ks ks' t t' x reply p = record {
-  tells = λ h s. (deed_of t p.order ∷ [], (subst (λ l. Stands l t') (sym (acts_more t p.order h)) (p.law (acts_in h) s.0), p.growth h s.1));
-  units = p.units;
-}
+-- an order leads from a table to the table after it
+pub order_leads : (t t' : Table) (o : Order)
+    → ((h : History) → Stands h t → Stands (act_of t o ∷ h) t')
+    → ((h : Deeds) → Grows h t → Grows (deed_of t o ∷ h) t')
+    → Leads t t'
+order_leads t t' o law growth h told = (deed_of t o ∷ [], (subst (λ l. Stands l t') (sym (acts_more t o h)) (law (acts_in h) told.0), growth h told.1))
+
+pub told_on : (t t' : Table) → Leads t t' → IsTold t → IsTold t'
+told_on t t' leads p = let q = leads p.0 p.1 in (q.0 ++ p.0, q.1)

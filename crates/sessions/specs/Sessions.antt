@@ -1,14 +1,16 @@
 -- What a session keeps of its table's answers: the unit of each entry granted, and the reservations not spent.
-use Rattle.std.specs.Prelude.{◌≡◌, ◌≢◌, ℕ, ◌<◌, ◌≤◌, ◌⊎◌, List, [], ◌∷◌, ◌++◌, length, Ok, Err, slice_index_or}
+use Rattle.std.specs.Prelude.{◌≡◌, ◌≢◌, ℕ, ◌<◌, ◌≤◌, ◌⊎◌, List, [], ◌∷◌, ◌++◌, length, Ok, Err, Result, slice_index_or, vec_len, vec_capacity}
 use Rattle.std.specs.List.{remove}
 use Rattle.trees.specs.declared.records.UnitEntryId.{UnitEntryId}
 use Rattle.trees.specs.declared.records.Reservation.{Reservation}
+use Rattle.trees.specs.declared.records.EditFault.{EditFault}
 use Rattle.trees.specs.declared.records.AttributeValue.{AttributeValue}
 use Rattle.trees.specs.declared.records.AttributeValue.TheVariants as value
 use Rattle.trees.specs.declared.records.DebugInfoRef.TheVariants as info
 use Rattle.trees.specs.History.{History, Stands, times}
-use Rattle.trees.specs.Growth.{Deeds, Grows, Tells}
-use Rattle.trees.specs.Model.{Entry, Table}
+use Rattle.trees.specs.Growth.{Deeds, Grows}
+use Rattle.trees.specs.Model.{Table}
+use Rattle.trees.specs.View.{view}
 use Rattle.scripts.specs.declared.call.Edit.{Edit}
 use Rattle.scripts.specs.declared.call.Edit.TheVariants as edit
 use Rattle.sessions.specs.declared.order.Order.{Order}
@@ -20,14 +22,17 @@ use Rattle.scripts.specs.declared.value.Value.{Value}
 use Rattle.scripts.specs.declared.value.Value.TheVariants.{Plain, UnitRef, InfoRef}
 use Rattle.sessions.specs.Orders.{carried, act_of, deed_of}
 use Rattle.sessions.specs.Rolls.{IsEntryOf, Named}
+use Rattle.sessions.specs.Tables.{units_in, Leads}
 use Rattle.sessions.specs.declared.order.Answer.{Answer}
 use Rattle.sessions.specs.declared.order.Answer.TheVariants as answer
 use Rattle.sessions.specs.declared.reply.Reply.{Reply}
-use Rattle.sessions.specs.declared.reply.Reply.TheVariants.{Unit as UnitReply, Id, Done, Told, Declined}
+use Rattle.sessions.specs.declared.reply.Reply.TheVariants.{Unit as UnitReply, Id, Done, Told}
+use Rattle.sessions.specs.declared.ledger.Ledger.{Ledger}
+use Rattle.sessions.specs.declared.session.Session.{Session}
 
 -- what stands past the reservations
 abbrev pub no_token : Reservation
-no_token = record { table = 0; unit = 0; entry = 0 }
+no_token = record { id = record { table = 0; unit = 0; entry = 0 } }
 
 -- the unit in which an answer grants an entry
 abbrev pub unit_granted : Answer → List ℕ
@@ -54,21 +59,25 @@ kept_back (answer.GaveBack x) = []
 kept_back (answer.ChildDeleted x) = []
 kept_back (answer.Edited x) = []
 
--- the answer in the script's names: a new entry's number is how many of its unit were granted before it
-abbrev pub reply_of : List ℕ → Answer → Reply
-reply_of homes (answer.Unit (Ok u)) = UnitReply u.unit
-reply_of homes (answer.Unit (Err f)) = Declined f
-reply_of homes (answer.Reserved (Ok a)) = Id (record { unit = a.0.unit; entry = times a.0.unit homes })
-reply_of homes (answer.Reserved (Err f)) = Declined f
-reply_of homes (answer.ReservedAdded (Ok x)) = Done
-reply_of homes (answer.ReservedAdded (Err f)) = Declined f.fault
-reply_of homes (answer.Added (Ok i)) = Id (record { unit = i.unit; entry = times i.unit homes })
-reply_of homes (answer.Added (Err f)) = Declined f
-reply_of homes (answer.GaveBack b) = Told b
-reply_of homes (answer.ChildDeleted (Ok b)) = Told b
-reply_of homes (answer.ChildDeleted (Err f)) = Declined f
-reply_of homes (answer.Edited (Ok x)) = Done
-reply_of homes (answer.Edited (Err f)) = Declined f
+-- the answer in the script's names, or why the call was declined: a new entry's number is how many of its unit were granted before it
+abbrev pub reply_of : List ℕ → Answer → Result Reply EditFault
+reply_of homes (answer.Unit (Ok u)) = Ok (UnitReply u.unit)
+reply_of homes (answer.Unit (Err f)) = Err f
+reply_of homes (answer.Reserved (Ok a)) = Ok (Id (record { unit = a.0.unit; entry = times a.0.unit homes }))
+reply_of homes (answer.Reserved (Err f)) = Err f
+reply_of homes (answer.ReservedAdded (Ok x)) = Ok Done
+reply_of homes (answer.ReservedAdded (Err f)) = Err f.fault
+reply_of homes (answer.Added (Ok i)) = Ok (Id (record { unit = i.unit; entry = times i.unit homes }))
+reply_of homes (answer.Added (Err f)) = Err f
+reply_of homes (answer.GaveBack b) = Ok (Told b)
+reply_of homes (answer.ChildDeleted (Ok b)) = Ok (Told b)
+reply_of homes (answer.ChildDeleted (Err f)) = Err f
+reply_of homes (answer.Edited (Ok x)) = Ok Done
+reply_of homes (answer.Edited (Err f)) = Err f
+
+-- room for an entry and for a reservation more
+abbrev pub HasRoom : Ledger → Type 0
+HasRoom l = (vec_len l.homes < vec_capacity l.homes) × (vec_len l.held < vec_capacity l.held)
 
 -- a value in the table's ids: one that refers to an entry refers to one that was granted
 abbrev pub InIds : List ℕ → ℕ → Value → AttributeValue → Type 0
@@ -78,7 +87,7 @@ InIds homes table (InfoRef x) w = (e : ℕ) × (IsEntryOf homes x e) × (w ≡ v
 
 -- a reservation of the entry that a name says was held, and is held no more
 abbrev pub HeldOf : List ℕ → ℕ → List Reservation → List Reservation → EntryName → Reservation → Type 0
-HeldOf homes table held held' x r = (k : ℕ) × (i : UnitEntryId) × (k < length held) × (slice_index_or held k no_token ≡ r) × (held' ≡ remove held k) × Named homes table x i × (r.entry ≡ i.entry)
+HeldOf homes table held held' x r = (k : ℕ) × (i : UnitEntryId) × (k < length held) × (slice_index_or held k no_token ≡ r) × (held' ≡ remove held k) × Named homes table x i × (r.id.entry ≡ i.entry)
 
 -- the order that an edit is, in the table's ids
 abbrev pub OrderOf : List ℕ → ℕ → List Reservation → List Reservation → Edit → Order → Type 0
@@ -100,7 +109,7 @@ NotMade homes (InfoRef x) = length homes ≤ 4294967295 → times x.unit homes �
 
 -- no reservation of an entry is held
 abbrev pub IsFree : List Reservation → ℕ → Type 0
-IsFree held e = (k : ℕ) → k < length held → (slice_index_or held k no_token).entry ≢ e
+IsFree held e = (k : ℕ) → k < length held → (slice_index_or held k no_token).id.entry ≢ e
 
 -- and so of the entry that a name says
 abbrev pub NotHeldOf : List ℕ → ℕ → List Reservation → EntryName → Type 0
@@ -118,31 +127,40 @@ Complains homes table held (edit.SetSibling x b) c = ⊥
 Complains homes table held (edit.DeleteChild p c') c = ⊥
 Complains homes table held (edit.GiveBack x) c = (c ≡ NotHeld) × NotHeldOf homes table held x
 
--- why an edit is not performed: it is no order, or there is no memory
-abbrev pub Unperformed : List ℕ → ℕ → List Reservation → Edit → Complaint → Type 0
-Unperformed homes table held x c = (c ≡ NoMemory) ⊎ Complains homes table held x c
+-- where a session stands: the number of its table, the unit of each entry, the reservations not spent, and the table
+pub record Stage : Type 0 where
+  pub number : ℕ
+  pub homes : List ℕ
+  pub held : List Reservation
+  pub table : Table
 
--- the unit of each entry of a table
-abbrev pub units_in : List Entry → List ℕ
-units_in [] = []
-units_in (e ∷ es) = e.unit ∷ units_in es
+abbrev pub stage_of : Ledger → Table → Stage
+stage_of l t = record { number = l.table; homes = l.homes.items; held = l.held.items; table = t }
+
+abbrev pub stage : Session → Stage
+stage s = stage_of s.ledger (view s.table.records)
+
+-- why an edit is not performed: it is no order, or there is no memory
+abbrev pub Unperformed : Stage → Edit → Complaint → Type 0
+Unperformed s x c = (c ≡ NoMemory) ⊎ Complains s.homes s.number s.held x c
 
 -- what an edit leaves: the table is as after the order that the edit is, the reply is the table's answer
 -- in the script's names, and what the answers so far tell of the entries stays true
-pub record Performed (number : ℕ) (homes homes' : List ℕ) (held held' : List Reservation) (t t' : Table) (x : Edit) (reply : Reply) : Type 0 where
+pub record Performed (s s' : Stage) (x : Edit) (reply : Result Reply EditFault) : Type 0 where
   pub order : Order
   pub unspent : List Reservation
-  pub means : OrderOf homes number held unspent x order
-  pub table : t' ≡ (carried t order).0
-  pub replies : reply ≡ reply_of homes (carried t order).1
-  pub grants : homes' ≡ homes ++ unit_granted (carried t order).1
-  pub holds : held' ≡ unspent ++ kept_back (carried t order).1
-  pub law : (h : History) → Stands h t → Stands (act_of t order ∷ h) t'
-  pub growth : (h : Deeds) → Grows h t → Grows (deed_of t order ∷ h) t'
-  pub units : homes ≡ units_in t.entries → homes' ≡ units_in t'.entries
+  pub number : s'.number ≡ s.number
+  pub means : OrderOf s.homes s.number s.held unspent x order
+  pub table : s'.table ≡ (carried s.table order).0
+  pub replies : reply ≡ reply_of s.homes (carried s.table order).1
+  pub grants : s'.homes ≡ s.homes ++ unit_granted (carried s.table order).1
+  pub holds : s'.held ≡ unspent ++ kept_back (carried s.table order).1
+  pub law : (h : History) → Stands h s.table → Stands (act_of s.table order ∷ h) s'.table
+  pub growth : (h : Deeds) → Grows h s.table → Grows (deed_of s.table order ∷ h) s'.table
+  pub units : s.homes ≡ units_in s.table.entries → s'.homes ≡ units_in s'.table.entries
 
--- where edits have led from one table to another: what calls and answers tell of the first they tell, with
+-- where edits have led from one stage to another: what calls and answers tell of the first table they tell, with
 -- more of them, of the second; and the units that are kept are still those of the entries
-pub record Led (homes homes' : List ℕ) (t t' : Table) : Type 0 where
-  pub tells : (h : Deeds) → Tells h t → (more : Deeds) × Tells (more ++ h) t'
-  pub units : homes ≡ units_in t.entries → homes' ≡ units_in t'.entries
+pub record Led (s s' : Stage) : Type 0 where
+  pub tells : Leads s.table s'.table
+  pub units : s.homes ≡ units_in s.table.entries → s'.homes ≡ units_in s'.table.entries

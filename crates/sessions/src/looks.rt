@@ -14,12 +14,7 @@ pub fn attributes(
 ) -> Result<Vec<Attribute>, AllocError>
     ensures { IfOk result (λ v. v.items ≡ attributes_of (view table.now.records) id) }
 {
-    let mut found = Vec::new(heap);
-    let mut rest = table.attrs(id);
-    while let Some(attribute) = rest.next() {
-        found.push(attribute)?;
-    }
-    Ok(found)
+    table.attrs(id).collect(heap)
 }
 
 // The children of an entry, in the order added.
@@ -30,22 +25,12 @@ pub fn children(
 ) -> Result<Vec<u32>, AllocError>
     ensures { IfOk result (λ v. v.items ≡ children_of (view table.now.records) id) }
 {
-    let mut found = Vec::new(heap);
-    let mut rest = table.children(id);
-    while let Some(child) = rest.next() {
-        found.push(child.entry)?;
-    }
-    Ok(found)
+    table.children(id).map(|child| child.entry).collect(heap)
 }
 
 // The steps of the walk through the tree of a unit.
 pub fn events(heap: Global, table: &UnitTable<'_>, unit: UnitId) -> Result<Vec<Event>, AllocError>
     ensures { IfOk result (λ v. v.items ≡ events_in (view table.now.records) unit) }
 {
-    let mut found = Vec::new(heap);
-    let mut rest = table.walk(unit);
-    while let Some(event) = rest.next() {
-        found.push(event)?;
-    }
-    Ok(found)
+    table.walk(unit).collect(heap)
 }

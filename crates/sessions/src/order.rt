@@ -4,7 +4,7 @@ use trees::{
 
 // An edit in the table's own ids. A reservation that it spends is part of it.
 pub enum Order {
-    Unit(Encoding, LineProgram),
+    Unit(Encoding, Option<LineProgram>),
     Reserve(UnitId),
     AddReserved(Reservation, UnitEntryId, u16),
     Add(UnitEntryId, u16),
@@ -15,7 +15,7 @@ pub enum Order {
     GiveBack(Reservation),
 }
 
-// What the table answers to an order.
+// What the table answers to an order: just what its call returns, so that a history of calls can say it.
 pub enum Answer {
     Unit(Result<UnitId, EditFault>),
     Reserved(Result<(UnitEntryId, Reservation), EditFault>),

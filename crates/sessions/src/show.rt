@@ -1,25 +1,20 @@
 ghost use Rattle.std.specs.Prelude.{◌≡◌, ◌+◌, ◌≤◌, length};
 ghost use Rattle.scripts.specs.Values.{bytes_at};
 
-use crate::roll::name_of;
+use crate::roll::Roll;
 use scripts::kinds::{kind_of, payload};
 use scripts::payload::Payload;
+use scripts::value::EntryName;
 use std::fmt;
+use texts::Word;
 use trees::{AttributeValue, Span, UnitEntryId};
 
 // The bytes of a part of the pool; none of a part that does not lie in it.
 pub fn bytes_of(pool: &[u8], span: Span) -> &[u8]
     ensures { span.start + span.len ≤ length pool.now → result.now ≡ bytes_at pool.now span }
 {
-    let start = span.start;
-    if start > pool.len() {
-        return &pool[0..0];
-    }
-    if span.len > pool.len() - start {
-        return &pool[0..0];
-    }
-    let end = start + span.len;
-    &pool[start..end]
+    let rest = pool.get(span.start..).unwrap_or(&[]);
+    rest.get(..span.len).unwrap_or(&[])
 }
 
 // Bytes as pairs of digits, and a dash for none.
@@ -42,18 +37,20 @@ impl fmt::Display for Hex<'_> {
 #[derive(Clone, Copy)]
 pub struct NameOf<'a> {
     pub id: UnitEntryId,
-    pub homes: &'a [u32],
+    pub roll: Roll<'a>,
 }
 
 impl fmt::Display for NameOf<'_> {
     fn fmt<W: fmt::Write>(&self, f: &mut fmt::Formatter<W>) -> fmt::Result {
-        let unit = self.id.unit;
-        match name_of(self.homes, self.id.entry as usize) {
+        match self.roll.name_of(self.id.entry as usize) {
             Some(name) => {
-                let entry = name.entry;
-                write!(f, "{unit} {entry}")
+                let unit = self.id.unit;
+                write!(f, "{}", EntryName { unit, ..name })
             }
-            None => write!(f, "{unit} -"),
+            None => {
+                let unit = self.id.unit;
+                write!(f, "{unit} -")
+            }
         }
     }
 }
@@ -63,7 +60,7 @@ impl fmt::Display for NameOf<'_> {
 pub struct Said<'p, 'h> {
     pub value: AttributeValue,
     pub pool: &'p [u8],
-    pub homes: &'h [u32],
+    pub roll: Roll<'h>,
 }
 
 impl fmt::Display for Said<'_, '_> {
@@ -80,10 +77,8 @@ impl fmt::Display for Said<'_, '_> {
                 write!(f, " {bytes}")
             }
             Payload::Entry(id) => {
-                let name = NameOf {
-                    id,
-                    homes: self.homes,
-                };
+                let roll = self.roll;
+                let name = NameOf { id, roll };
                 write!(f, " {name}")
             }
         }

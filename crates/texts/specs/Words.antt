@@ -3,6 +3,10 @@ use Rattle.std.specs.Prelude.{◌≡◌, ℕ, ◌≤◌, List, Some, None, Optio
 use Rattle.texts.specs.declared.bad_word.BadWord.{BadWord}
 use Rattle.texts.specs.declared.bad_word.BadWord.TheVariants.{NotANumber, OutOfRange, NotBytes, NoMemory}
 
+-- what the text says is no number
+abbrev pub SaysNone : {X : Type 0} → Option X → BadWord → Type 0
+SaysNone o e = (o ≡ None) × (e ≡ NotANumber)
+
 -- a number below a limit: what the text says is no number, or is past the limit
 abbrev pub NoNumber : ℕ → Option ℕ → BadWord → Type 0
 NoNumber limit o NotANumber = o ≡ None

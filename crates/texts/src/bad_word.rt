@@ -3,10 +3,11 @@ ghost use Rattle.texts.specs.Words.{text_of};
 ghost use Rattle.texts.specs.declared.bad_word.BadWord.TheVariants.{NoMemory};
 
 use std::alloc::{AllocError, AllocFailed};
+use std::error::Error;
 use std::fmt;
 
 // Why a word is not what it should be.
-#[derive(Clone, Copy)]
+#[derive(Clone, Copy, Debug, PartialEq, Eq, Hash)]
 pub enum BadWord {
     NotANumber,
     OutOfRange,
@@ -35,6 +36,8 @@ impl fmt::Display for BadWord {
         f.write_str(self.text())
     }
 }
+
+impl Error for BadWord {}
 
 impl From<AllocError> for BadWord {
     ghost from_gives = { λ _ r. r ≡ NoMemory };

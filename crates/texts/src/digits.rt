@@ -1,5 +1,5 @@
 ghost use Rattle.std.specs.Prelude.{◌≡◌, Some, MatchResult};
-ghost use Rattle.texts.specs.Texts.{digit_of, one_more, value_in, some_digits_of, hexed, number_of, minus, plus, dashed, signed_of, byte_of, bytes_from, dash, bytes_named};
+ghost use Rattle.texts.specs.Texts.{digit_of, one_more, value_in, some_digits_of, number_of, minus, plus, signed_of, byte_of, bytes_from, bytes_named};
 ghost use Rattle.texts.specs.Words.{NoBytes};
 
 use super::bad_word::BadWord;
@@ -20,7 +20,7 @@ fn digit(b: u8) -> Option<u8>
 fn push_digit(n: u64, base: u64, b: u8) -> Option<u64>
     ensures { result ≡ one_more base n b }
 {
-    let d = digit(b)? as u64;
+    let d = u64::from(digit(b)?);
     if d >= base {
         return None;
     }
@@ -48,21 +48,13 @@ fn some_digits(text: &[u8], base: u64) -> Option<u64>
     digits(text, base)
 }
 
-// Whether a number is in hexadecimal.
-fn is_hex(text: &[u8]) -> bool
-    ensures { result ≡ hexed text.now }
-{
-    text.len() >= 2 && text[0] == b'0' && text[1] == b'x'
-}
-
 // A decimal number, or a hexadecimal one after 0x.
 pub fn number(text: &[u8]) -> Option<u64>
     ensures { result ≡ number_of text.now }
 {
-    if is_hex(text) {
-        some_digits(&text[2..], 16)
-    } else {
-        some_digits(text, 10)
+    match text {
+        [b'0', b'x', digits @ ..] => some_digits(digits, 16),
+        _ => some_digits(text, 10),
     }
 }
 
@@ -70,41 +62,23 @@ pub fn number(text: &[u8]) -> Option<u64>
 fn negative(n: u64) -> Option<i64>
     ensures { result ≡ minus n }
 {
-    if n == 0 {
-        return Some(0);
-    }
-    let below = n - 1;
-    if below > 0x7fff_ffff_ffff_ffff {
-        return None;
-    }
-    Some(-1 - below as i64)
+    0i64.checked_sub_unsigned(n)
 }
 
 // A number that is not below zero.
 fn positive(n: u64) -> Option<i64>
     ensures { result ≡ plus n }
 {
-    if n > 0x7fff_ffff_ffff_ffff {
-        return None;
-    }
-    Some(n as i64)
-}
-
-// Whether a number has a sign.
-fn has_dash(text: &[u8]) -> bool
-    ensures { result ≡ dashed text.now }
-{
-    !text.is_empty() && text[0] == b'-'
+    0i64.checked_add_unsigned(n)
 }
 
 // A number with or without a sign.
 pub fn signed(text: &[u8]) -> Option<i64>
     ensures { result ≡ signed_of text.now }
 {
-    if has_dash(text) {
-        negative(number(&text[1..])?)
-    } else {
-        positive(number(text)?)
+    match text {
+        [b'-', digits @ ..] => negative(number(digits)?),
+        _ => positive(number(text)?),
     }
 }
 
@@ -112,41 +86,29 @@ pub fn signed(text: &[u8]) -> Option<i64>
 fn byte(high: u8, low: u8) -> Option<u8>
     ensures { result ≡ byte_of high low }
 {
-    let high = digit(high)?;
-    let low = digit(low)?;
-    Some(high * 16 + low)
+    Some(digit(high)? * 16 + digit(low)?)
 }
 
 // Bytes of two digits each.
 fn pairs(heap: Global, text: &[u8]) -> Result<Vec<u8>, BadWord>
     ensures { MatchResult result (λ v. bytes_from text.now ≡ Some v.items) (NoBytes (bytes_from text.now)) }
 {
-    if text.len() % 2 == 1 {
+    let (pairs, []) = text.as_chunks::<2>() else {
         return Err(BadWord::NotBytes);
-    }
+    };
     let mut bytes = Vec::new(heap);
-    for i in 0..text.len() / 2 {
-        let Some(b) = byte(text[2 * i], text[2 * i + 1]) else {
-            return Err(BadWord::NotBytes);
-        };
-        bytes.push(b)?;
+    for [high, low] in pairs {
+        bytes.push(byte(*high, *low).ok_or(BadWord::NotBytes)?)?;
     }
     Ok(bytes)
-}
-
-// Whether a text is a dash.
-fn is_dash(text: &[u8]) -> bool
-    ensures { result ≡ dash text.now }
-{
-    text.len() == 1 && text[0] == b'-'
 }
 
 // Bytes, or a dash for none.
 pub fn hex_bytes(heap: Global, text: &[u8]) -> Result<Vec<u8>, BadWord>
     ensures { MatchResult result (λ v. bytes_named text.now ≡ Some v.items) (NoBytes (bytes_named text.now)) }
 {
-    if is_dash(text) {
-        return Ok(Vec::new(heap));
+    match text {
+        [b'-'] => Ok(Vec::new(heap)),
+        _ => pairs(heap, text),
     }
-    pairs(heap, text)
 }

@@ -1,17 +1,16 @@
 -- Counts over entries and records, and the search for a file.
-use Rattle.std.proofs.Common.{◌≡◌, ℕ, ◌+◌, ◌<◌, ◌≤◌, Bool, true, false, ◌&&◌, ◌||◌, eqb, ◌≢◌, List, [], ◌∷◌, ◌++◌, map, length, get_or, take, drop, sym, ap, ◌∙◌, arith}
+use Rattle.std.proofs.Common.{◌≡◌, ℕ, ◌+◌, ◌<◌, ◌≤◌, Bool, true, false, ◌&&◌, ◌||◌, eqb, List, [], ◌∷◌, ◌++◌, map, length, get_or, take, drop, sym, refl, ap, ◌∙◌, arith}
 use Rattle.std.proofs.lemmas.List.{take_more, drop_more, length-take-le}
 use Rattle.trees.specs.declared.records.AttributeRecord.{AttributeRecord}
 use Rattle.trees.specs.declared.records.Counts.{Counts}
 use Rattle.trees.specs.declared.records.State.{State}
 use Rattle.trees.specs.declared.records.State.TheVariants.{Root, Waiting, Placed, TakenOut, GivenBack}
+use Rattle.std.specs.List.{list_any}
+use Rattle.trees.specs.Attributes.{attribute_in}
 use Rattle.trees.specs.Counts.{counts_in, tallied, Countable, names_file, any_file, file_in}
-use Rattle.trees.specs.Cursors.{records_from, attributes_from, AttributesEnd, AttributesLie}
 use Rattle.trees.specs.History.{is_state, in_state}
-use Rattle.trees.specs.Lists.{nil}
 use Rattle.trees.specs.Model.{Entry, no_entry}
 use Rattle.trees.specs.View.{no_attribute}
-use Rattle.trees.proofs.Walks.{walk_step}
 
 -- one more entry
 in_push : (s : State) (es : List Entry) (e : Entry) → in_state s (es ++ e ∷ []) ≡ in_state s es + is_state s e.state
@@ -79,33 +78,18 @@ countable es i h l =
     let d = in_most GivenBack xs in
     (omega arith, omega arith, omega arith, omega arith)
 
--- one step on
-pub record Onward (ats : List AttributeRecord) (a : ℕ) : Type 0 where
-  pub inside : a < length ats
-  pub list : records_from ats a ≡ a ∷ records_from ats (get_or ats a no_attribute).next
-  pub ends : AttributesEnd ats (get_or ats a no_attribute).next
-  pub lie : AttributesLie ats (get_or ats a no_attribute).next
+-- the files of the attributes in some records
+pub files_in : (ats : List AttributeRecord) (ns : List ℕ) → list_any (λ (x : ℕ × AttributeRecord). names_file x.1.attribute.value) (map (λ i. (i, get_or ats i no_attribute)) ns) ≡ any_file (map (attribute_in ats) ns)
+files_in ats [] = refl
+files_in ats (n ∷ ns) = ap (λ (b : Bool). names_file (get_or ats n no_attribute).attribute.value || b) (files_in ats ns)
 
-pub onward : (ats : List AttributeRecord) (a : ℕ) → AttributesEnd ats a → AttributesLie ats a → a ≢ nil → Onward ats a
-onward ats a e l ne = let k = walk_step (λ i. (get_or ats i no_attribute).next) (length ats) a e l ne in record { inside = k.1; list = k.0; ends = k.2; lie = k.3 }
-
--- the files of the attributes to come
-pub files_more : (ats : List AttributeRecord) (a : ℕ) → Onward ats a → any_file (attributes_from ats a) ≡ (names_file (get_or ats a no_attribute).attribute.value || any_file (attributes_from ats (get_or ats a no_attribute).next))
-files_more ats a w = ap (λ (xs : List ℕ). any_file (map (λ i. (get_or ats i no_attribute).attribute) xs)) w.list
-
+-- the files of the entries to come
 or_true : (a b : Bool) → a ≡ true → (a || b) ≡ true
 or_true a b e = rw e
 
 or_false : (a b : Bool) → a ≡ false → (a || b) ≡ b
 or_false a b e = rw e
 
-pub file_here : (ats : List AttributeRecord) (a : ℕ) → Onward ats a → names_file (get_or ats a no_attribute).attribute.value ≡ true → any_file (attributes_from ats a) ≡ true
-file_here ats a w e = files_more ats a w ∙ or_true _ _ e
-
-pub file_later : (ats : List AttributeRecord) (a : ℕ) → Onward ats a → names_file (get_or ats a no_attribute).attribute.value ≡ false → any_file (attributes_from ats (get_or ats a no_attribute).next) ≡ any_file (attributes_from ats a)
-file_later ats a w e = sym (files_more ats a w ∙ or_false _ _ e)
-
--- and of the entries to come
 pub unit_file_here : (u : ℕ) (es : List Entry) (i : ℕ) → i < length es → (eqb (get_or es i no_entry).unit u && any_file (get_or es i no_entry).attributes) ≡ true → file_in u (drop i es) ≡ true
 unit_file_here u es i h e = ap (file_in u) (drop_more es i no_entry h) ∙ or_true _ _ e
 

@@ -15,7 +15,7 @@ use Rattle.trees.proofs.Families.{Good, Removing, remove_good, dropped, last_lef
 use Rattle.trees.proofs.Views.{along, nx, fs, ls, pa, un, at, st, tg, sb, nt, upd, upd_at, upd_off, held_path, length_entries, entries_at, entries_are, change_at, length_change, kin_good, held_good}
 use Rattle.trees.proofs.Trees.{Stepped, changes, keeps, at_point, small, root_not}
 
-module _ (us : List UnitRecord) (m : ℕ) (es : List EntryRecord) (n : ℕ) (ats : List AttributeRecord) (k free size : ℕ) (S : Sound us m es n ats k free size) where
+module _ {us : List UnitRecord} {m : ℕ} {es : List EntryRecord} {n : ℕ} {ats : List AttributeRecord} {k free size : ℕ} (S : Sound us m es n ats k free size) where
   -- c is taken out at p, from after l
   pub record Taking (es' : List EntryRecord) (c p l : ℕ) : Type 0 where
     pub len : length es' ≡ length es
@@ -34,10 +34,10 @@ module _ (us : List UnitRecord) (m : ℕ) (es : List EntryRecord) (n : ℕ) (ats
 
   module _ (es' : List EntryRecord) (c p l : ℕ) (hp : p < n) (b : Before (kin es n) (length es) p c l) (w : Taking es' c p l) where
     nz : n ≤ nil
-    nz = small us m es n ats k free size S
+    nz = small S
 
     g : Good (kin es n) (length es) n
-    g = kin_good us m es n ats k free size S
+    g = kin_good S
 
     pub taken_in : c < n
     taken_in = (S.kin_owned (p, c, b.0)).0
@@ -122,9 +122,9 @@ module _ (us : List UnitRecord) (m : ℕ) (es : List EntryRecord) (n : ℕ) (ats
           ∙ sym (at_point w.unit (pa es' e)));
       housed = λ e h. subst (λ (v : ℕ). v < m) (sym (at_point w.unit e)) (S.housed e h);
       rooted = λ u h. let r = S.rooted u h in let rt = (get_or us u no_unit).root in
-          (r.0, ap kind (at_point w.state rt ∙ upd_off (st es) c TakenOut rt (root_not us m es n ats k free size S u c h (λ z. (let y = c_kind in omega arith)))) ∙ r.1, at_point w.unit rt ∙ r.2);
-      held_ends = (subst (λ (L : Links). Good L (length ats) k) (sym tk_held) (held_good us m es n ats k free size S)).ends;
-      held_owned = (subst (λ (L : Links). Good L (length ats) k) (sym tk_held) (held_good us m es n ats k free size S)).owned;
+          (r.0, ap kind (at_point w.state rt ∙ upd_off (st es) c TakenOut rt (root_not S u c h (λ z. (let y = c_kind in omega arith)))) ∙ r.1, at_point w.unit rt ∙ r.2);
+      held_ends = (subst (λ (L : Links). Good L (length ats) k) (sym tk_held) (held_good S)).ends;
+      held_owned = (subst (λ (L : Links). Good L (length ats) k) (sym tk_held) (held_good S)).owned;
     }
 
     pub take_held : kids (holdings es' n ats free) (length ats) nil ≡ kids (holdings es n ats free) (length ats) nil
@@ -197,7 +197,7 @@ module _ (us : List UnitRecord) (m : ℕ) (es : List EntryRecord) (n : ℕ) (ats
     unfolding nil
     after_taking ne =
         let x = nx es c in
-        let lc : l ≢ c = before_not (kin es n) (length es) n (small us m es n ats k free size S) (kin_good us m es n ats k free size S) p c l b ne in
+        let lc : l ≢ c = before_not (kin es n) (length es) n (small S) (kin_good S) p c l b ne in
         let e1 = modify es l (with_next x) in
         let k1 : length e1 ≡ length es = length-set es l _ in
         let v = last_without e1 c p l in
@@ -233,11 +233,11 @@ module _ (us : List UnitRecord) (m : ℕ) (es : List EntryRecord) (n : ℕ) (ats
         }
 
   module _ (es' : List EntryRecord) (c p l : ℕ) (hp : p < n) (b : Before (kin es n) (length es) p c l) where
-    stepped : Taking es' c p l → Stepped us m es n ats k free size S es' (change c (left TakenOut) (change p (abandon c) (entries_in es n ats free)))
+    stepped : Taking es' c p l → Stepped S es' (change c (left TakenOut) (change p (abandon c) (entries_in es n ats free)))
     stepped w = (take_sound es' c p l hp b w, take_view es' c p l hp b w, w.len, take_held es' c p l hp b w)
 
-    pub taken_first : l ≡ nil → es' ≡ unlinked_first es c p → Stepped us m es n ats k free size S es' (change c (left TakenOut) (change p (abandon c) (entries_in es n ats free)))
+    pub taken_first : l ≡ nil → es' ≡ unlinked_first es c p → Stepped S es' (change c (left TakenOut) (change p (abandon c) (entries_in es n ats free)))
     taken_first e q = stepped (subst (λ (x : List EntryRecord). Taking x c p l) (sym q) (first_taking c p l hp b e))
 
-    pub taken_after : l ≢ nil → es' ≡ unlinked_after es c p l → Stepped us m es n ats k free size S es' (change c (left TakenOut) (change p (abandon c) (entries_in es n ats free)))
+    pub taken_after : l ≢ nil → es' ≡ unlinked_after es c p l → Stepped S es' (change c (left TakenOut) (change p (abandon c) (entries_in es n ats free)))
     taken_after e q = stepped (subst (λ (x : List EntryRecord). Taking x c p l) (sym q) (after_taking c p l hp b e))

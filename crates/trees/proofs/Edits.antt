@@ -9,28 +9,9 @@ use Rattle.trees.specs.declared.records.State.{State}
 use Rattle.trees.specs.declared.records.State.TheVariants.{Root, Waiting, Placed, TakenOut, GivenBack}
 use Rattle.trees.specs.declared.records.EditFault.{EditFault}
 use Rattle.trees.specs.declared.records.EditFault.TheVariants.{UnitWritten, TableFull}
-use Rattle.trees.specs.declared.table.UnitTable.{UnitTable}
 use Rattle.trees.specs.Model.{Entry, Table, Check, entry_of, unit_of, no_entry, no_unit, is_waiting, is_given_back, knows, knows_unit, knows_both, first_fault, edit_checks, passes, unless, grant, new_entry}
-use Rattle.trees.specs.View.{view, Holds, entry_at}
+use Rattle.trees.specs.View.{view, entry_at}
 use Rattle.trees.proofs.Views.{un, st, length_entries, entries_at}
-
-pub holds : (t : UnitTable) → Holds t.records
-holds t = record {
-  units_fit = t.units_fit;
-  entries_fit = t.entries_fit;
-  attributes_fit = t.attributes_fit;
-  pool_fits = t.pool_fits;
-  kin_ends = t.kin_ends;
-  kin_owned = t.kin_owned;
-  lasts = t.lasts;
-  parented = t.parented;
-  listed = t.listed;
-  akin = t.akin;
-  housed = t.housed;
-  rooted = t.rooted;
-  held_ends = t.held_ends;
-  held_owned = t.held_owned;
-}
 
 pub waiting_is : (s : State) → is_waiting s ≡ true → s ≡ Waiting
 waiting_is Root e = absurd (true≢false (sym e))
@@ -49,8 +30,8 @@ view_entry r e h = entries_at r.entries.now r.entry_count r.attributes.now r.fre
 pub view_state : (r : Records) (e : ℕ) → e < r.entry_count → (entry_of (view r) e).state ≡ st r.entries.now e
 view_state r e h = ap (λ (x : Entry). x.state) (view_entry r e h)
 
-pub view_units : (r : Records) → Holds r → length (view r).units ≡ r.unit_count
-view_units r S = length-take-le r.unit_count r.units.now S.units_fit.0
+pub view_units : (r : Records) → length (view r).units ≡ r.unit_count
+view_units r = length-take-le r.unit_count r.units.now r.sound.units_fit.0
 
 pub view_unit : (r : Records) (u : ℕ) → u < r.unit_count → unit_of (view r) u ≡ get_or r.units.now u no_unit
 view_unit r u h = get_or-take r.unit_count r.units.now u no_unit h
@@ -62,24 +43,24 @@ pub record Known (r : Records) (id : UnitEntryId) : Type 0 where
   pub there : is_given_back (st r.entries.now id.entry) ≡ false
   pub housed : id.unit < r.unit_count
 
-pub known : (r : Records) → Holds r → (id : UnitEntryId) → knows (view r) id ≡ true → Known r id
-known r S id e =
+pub known : (r : Records) → (id : UnitEntryId) → knows (view r) id ≡ true → Known r id
+known r id e =
     let p = and_parts (eqb id.table r.number) _ e in
     let q = and_parts (ltb id.entry (length (view r).entries)) _ p.1 in
     let s = and_parts (eqb (entry_of (view r) id.entry).unit id.unit) _ q.1 in
     let h : id.entry < r.entry_count = (let z = view_count r in let y = ltb-true id.entry (length (view r).entries) q.0 in omega arith) in
     let v = view_entry r id.entry h in
     let u : un r.entries.now id.entry ≡ id.unit = sym (ap (λ (x : Entry). x.unit) v) ∙ eqb-true _ _ s.0 in
-    record { used = h; unit = u; there = sym (ap (λ (x : Entry). is_given_back x.state) v) ∙ not-true _ s.1; housed = (let z = S.housed id.entry h in omega arith) }
+    record { used = h; unit = u; there = sym (ap (λ (x : Entry). is_given_back x.state) v) ∙ not-true _ s.1; housed = (let z = r.sound.housed id.entry h in omega arith) }
 
-pub known_both : (r : Records) → Holds r → (i j : UnitEntryId) → knows_both (view r) i j ≡ true → Known r i × Known r j × (i.unit ≡ j.unit)
-known_both r S i j e =
+pub known_both : (r : Records) → (i j : UnitEntryId) → knows_both (view r) i j ≡ true → Known r i × Known r j × (i.unit ≡ j.unit)
+known_both r i j e =
     let p = and_parts (knows (view r) i) _ e in
     let q = and_parts (knows (view r) j) _ p.1 in
-    (known r S i p.0, known r S j q.0, eqb-true i.unit j.unit q.1)
+    (known r i p.0, known r j q.0, eqb-true i.unit j.unit q.1)
 
-pub known_unit : (r : Records) → Holds r → (id : UnitId) → knows_unit (view r) id ≡ true → id.unit < r.unit_count
-known_unit r S id e = let p = and_parts (eqb id.table r.number) _ e in let z = view_units r S in let y = ltb-true id.unit (length (view r).units) p.1 in omega arith
+pub known_unit : (r : Records) → (id : UnitId) → knows_unit (view r) id ≡ true → id.unit < r.unit_count
+known_unit r id e = let p = and_parts (eqb id.table r.number) _ e in let z = view_units r in let y = ltb-true id.unit (length (view r).units) p.1 in omega arith
 
 -- what `knows` reads off the records
 pub knows_past : (r : Records) (id : UnitEntryId) → r.entry_count ≤ id.entry → false ≡ knows (view r) id

@@ -15,7 +15,7 @@ use Rattle.trees.proofs.Families.{Good, framed, chain_nil}
 use Rattle.trees.proofs.Views.{fs, ls, pa, un, at, st, length_entries, entries_at, entries_are, kin_good, held_good}
 use Rattle.trees.proofs.Trees.{parent_in}
 
-module _ (us : List UnitRecord) (m : ℕ) (es : List EntryRecord) (n : ℕ) (ats : List AttributeRecord) (k free size : ℕ) (S : Sound us m es n ats k free size)
+module _ {us : List UnitRecord} {m : ℕ} {es : List EntryRecord} {n : ℕ} {ats : List AttributeRecord} {k free size : ℕ} (S : Sound us m es n ats k free size)
     (u : ℕ) (s : State) (tag : ℕ) (room : n < length es) where
   abbrev pub more : List EntryRecord
   more = set es n (fresh_record u s tag)
@@ -51,7 +51,7 @@ module _ (us : List UnitRecord) (m : ℕ) (es : List EntryRecord) (n : ℕ) (ats
   ]
 
   both : Good (kin more (n + 1)) (length es) (n + 1) × ((y : ℕ) → kids (kin more (n + 1)) (length es) y ≡ kids (kin es n) (length es) y)
-  both = framed (kin es n) (kin more (n + 1)) (length es) n (n + 1) (omega arith) (let z = nz in omega arith) (omega arith) (kin_good us m es n ats k free size S)
+  both = framed (kin es n) (kin more (n + 1)) (length es) n (n + 1) (omega arith) (let z = nz in omega arith) (omega arith) (kin_good S)
       (λ y h. ap (λ (r : EntryRecord). r.next) (there y (λ q. omega arith))) first_same (λ y h. ap (λ (r : EntryRecord). r.parent) (there y (λ q. omega arith)))
 
   fr_kids : (y : ℕ) → kids (kin more (n + 1)) (length more) y ≡ kids (kin es n) (length es) y
@@ -112,7 +112,7 @@ module _ (us : List UnitRecord) (m : ℕ) (es : List EntryRecord) (n : ℕ) (ats
     akin = λ e h np'. elim (cases_eq e n) [
       | inl q ↦ absurd (np' (ap (pa more) q ∙ (ap (λ (r : EntryRecord). r.parent) here ∙ sym nil_is)))
       | inr ne ↦ (let z : pa more e ≡ pa es e = ap (λ (r : EntryRecord). r.parent) (there e ne) in
-          let b : pa es e < n = parent_in us m es n ats k free size S e (omega arith) (λ x. np' (z ∙ x)) in
+          let b : pa es e < n = parent_in S e (omega arith) (λ x. np' (z ∙ x)) in
           ap (λ (r : EntryRecord). r.unit) (there e ne) ∙ (S.akin e (omega arith) (λ x. np' (z ∙ x)) ∙ (sym (ap (λ (r : EntryRecord). r.unit) (there (pa es e) (λ q. omega arith))) ∙ ap (un more) (sym z))))
     ];
     housed = λ e h. elim (cases_eq e n) [
@@ -126,8 +126,8 @@ module _ (us : List UnitRecord) (m : ℕ) (es : List EntryRecord) (n : ℕ) (ats
       | inr l ↦ (let r = w.new v l h in subst (λ (x : ℕ). (x < n + 1) × (kind (st more x) ≡ 0) × (un more x ≡ v)) (sym r.0)
           ((omega arith), ap (λ (x : EntryRecord). kind x.state) here ∙ r.1, ap (λ (x : EntryRecord). x.unit) here ∙ r.2))
     ];
-    held_ends = (subst (λ (L : Links). Good L (length ats) k) (sym held) (held_good us m es n ats k free size S)).ends;
-    held_owned = (subst (λ (L : Links). Good L (length ats) k) (sym held) (held_good us m es n ats k free size S)).owned;
+    held_ends = (subst (λ (L : Links). Good L (length ats) k) (sym held) (held_good S)).ends;
+    held_owned = (subst (λ (L : Links). Good L (length ats) k) (sym held) (held_good S)).owned;
   }
 
   entry_is : (y : ℕ) (r : EntryRecord) (A C : List ℕ) → get_or more y blank ≡ r → kids (holdings es n ats free) (length ats) y ≡ A → kids (kin es n) (length es) y ≡ C

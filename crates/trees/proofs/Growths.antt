@@ -96,7 +96,7 @@ module _ (t : Table) where
   grant_grew u e = contents_push t (grant t u) (new_entry u Waiting 0) refl e ∙ elim (cases_eq e (length t.entries))
       [ inl p ↦ rw (eq-eqb e (length t.entries) p) (sym (none_yet t e (omega arith))) | inr p ↦ rw (ne_eqb e (length t.entries) p) ]
 
-  pub unit_grew : (encoding : Encoding) (line : LineProgram) (x : Table × Result UnitId EditFault) → x ≡ add_unit t encoding line → Grew t x.0 (unit_added encoding line x.1)
+  pub unit_grew : (encoding : Encoding) (line : Option LineProgram) (x : Table × Result UnitId EditFault) → x ≡ add_unit t encoding line → Grew t x.0 (unit_added encoding line x.1)
   unit_grew encoding line x q = subst (λ (x : Table × Result UnitId EditFault). Grew t x.0 (unit_added encoding line x.1)) (sym q) (go (first_fault ((t.closed, SessionClosed) ∷ ((eqb t.units_left 0 || eqb t.entries_left 0, TableFull) ∷ []))))
     where
       go : (o : Option EditFault) → Grew t (unless o as_is t (unit_done t encoding line)).0 (unit_added encoding line (unless o as_is t (unit_done t encoding line)).1)
@@ -116,24 +116,24 @@ module _ (t : Table) where
 
   pub reserved_grew : (r : Reservation) (p : UnitEntryId) (tag : ℕ) (x : Table × Result Unit Refusal) → x ≡ add_reserved t r p tag → Grew t x.0 (reserved_added r p tag x.1)
   reserved_grew r p tag x q = subst (λ (x : Table × Result Unit Refusal). Grew t x.0 (reserved_added r p tag x.1)) (sym q)
-      (go (first_fault (edit_checks t (knows_both t (entry_id r) p) r.unit ((not (is_waiting (entry_of t r.entry).state), NotWaiting) ∷ []))) refl)
+      (go (first_fault (edit_checks t (knows_both t (entry_id r) p) r.id.unit ((not (is_waiting (entry_of t r.id.entry).state), NotWaiting) ∷ []))) refl)
     where
-      go : (o : Option EditFault) → first_fault (edit_checks t (knows_both t (entry_id r) p) r.unit ((not (is_waiting (entry_of t r.entry).state), NotWaiting) ∷ [])) ≡ o
+      go : (o : Option EditFault) → first_fault (edit_checks t (knows_both t (entry_id r) p) r.id.unit ((not (is_waiting (entry_of t r.id.entry).state), NotWaiting) ∷ [])) ≡ o
           → Grew t (unless o (λ f. record { fault = f; reservation = r }) t (place_done t r p tag)).0 (reserved_added r p tag (unless o (λ f. record { fault = f; reservation = r }) t (place_done t r p tag)).1)
       go None e =
-          let c = cleared t (knows_both t (entry_id r) p) r.unit ((not (is_waiting (entry_of t r.entry).state), NotWaiting) ∷ []) e in
+          let c = cleared t (knows_both t (entry_id r) p) r.id.unit ((not (is_waiting (entry_of t r.id.entry).state), NotWaiting) ∷ []) e in
           let b = and_parts (knows t (entry_id r)) _ c.0 in
           let hp = known_used t p (and_parts (knows t p) _ b.1).0 in
-          record { count = place_length r.entry p.entry tag ∙ omega arith; trees = place_grew r.entry p.entry tag (known_used t (entry_id r) b.0) hp }
+          record { count = place_length r.id.entry p.entry tag ∙ omega arith; trees = place_grew r.id.entry p.entry tag (known_used t (entry_id r) b.0) hp }
       go (Some f) e = same t (reserved_added r p tag (Err (record { fault = f; reservation = r }))) refl refl
 
   pub back_grew : (r : Reservation) (x : Table × Bool) → x ≡ give_back t r → Grew t x.0 (gave_back r x.1)
-  back_grew r x q = subst (λ (x : Table × Bool). Grew t x.0 (gave_back r x.1)) (sym q) (go (knows t (entry_id r) && is_waiting (entry_of t r.entry).state) refl)
+  back_grew r x q = subst (λ (x : Table × Bool). Grew t x.0 (gave_back r x.1)) (sym q) (go (knows t (entry_id r) && is_waiting (entry_of t r.id.entry).state) refl)
     where
-      go : (b : Bool) → (knows t (entry_id r) && is_waiting (entry_of t r.entry).state) ≡ b → Grew t (back_as t r b).0 (gave_back r (back_as t r b).1)
+      go : (b : Bool) → (knows t (entry_id r) && is_waiting (entry_of t r.id.entry).state) ≡ b → Grew t (back_as t r b).0 (gave_back r (back_as t r b).1)
       go true e =
           let b = and_parts (knows t (entry_id r)) _ e in
-          record { count = length_change t.entries r.entry (left GivenBack) ∙ omega arith; trees = contents_kept t (back_done t r) r.entry (left GivenBack) (known_used t (entry_id r) b.0) refl (λ x. refl) }
+          record { count = length_change t.entries r.id.entry (left GivenBack) ∙ omega arith; trees = contents_kept t (back_done t r) r.id.entry (left GivenBack) (known_used t (entry_id r) b.0) refl (λ x. refl) }
       go false e = same t (gave_back r false) refl refl
 
   pub delete_grew : (p c : UnitEntryId) (x : Table × Result Bool EditFault) → x ≡ delete_child t p c → Grew t x.0 (child_deleted p c x.1)

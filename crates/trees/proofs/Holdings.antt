@@ -11,8 +11,8 @@ use Rattle.trees.specs.Lists.{nil, chain, stop, Links, kids, Mem, has, last_or, 
 use Rattle.trees.specs.Model.{Entry, no_unit, change, amend, named, put, unname}
 use Rattle.trees.specs.View.{blank, no_attribute, kin, holdings, attributes_at, entry_at, entries_in, kind, Sound, Sized}
 use Rattle.trees.specs.Attributes.{attribute_in}
-use Rattle.trees.proofs.Segs.{without_here, without_past}
-use Rattle.trees.proofs.Families.{Good, Appending, append_good, Heading, head_good, Removing, remove_good, removed, wider, added, headed, dropped, chain_step, chain_nil, once}
+use Rattle.trees.proofs.Segs.{frame, without_here, without_past}
+use Rattle.trees.proofs.Families.{Good, rebuild, good_seg, Appending, append_good, Heading, head_good, Removing, remove_good, removed, wider, added, headed, dropped, chain_step, chain_nil, once}
 use Rattle.trees.proofs.Views.{nx, fs, ls, pa, un, at, st, tg, sb, nt, upd, upd_at, upd_off, field, kept, kin_path, length_entries, entries_at, entries_are, change_at, length_change, kin_good, held_good}
 use Rattle.trees.proofs.Trees.{at_point}
 
@@ -50,7 +50,7 @@ pub named_split : (name : ℕ) (f : ℕ → Attribute) (bs : List ℕ) (a : ℕ)
 named_split name f [] a as' e = or_left (eqb (f a).name name) (named name (map f as')) (eq-eqb (f a).name name e)
 named_split name f (b ∷ bs) a as' e = or_right (eqb (f b).name name) (named name (map f (bs ++ (a ∷ as')))) (named_split name f bs a as' e)
 
-module _ (us : List UnitRecord) (m : ℕ) (es : List EntryRecord) (n : ℕ) (ats : List AttributeRecord) (k free size : ℕ) (S : Sound us m es n ats k free size) where
+module _ {us : List UnitRecord} {m : ℕ} {es : List EntryRecord} {n : ℕ} {ats : List AttributeRecord} {k free size : ℕ} (S : Sound us m es n ats k free size) where
   abbrev L : Links
   L = holdings es n ats free
 
@@ -58,7 +58,7 @@ module _ (us : List UnitRecord) (m : ℕ) (es : List EntryRecord) (n : ℕ) (ats
   f = attribute_in ats
 
   g : Good L (length ats) k
-  g = held_good us m es n ats k free size S
+  g = held_good S
 
   kz : k ≤ nil
   unfolding nil
@@ -109,7 +109,7 @@ module _ (us : List UnitRecord) (m : ℕ) (es : List EntryRecord) (n : ℕ) (ats
     sl_kids y = ap (λ (X : Links). kids X (length es') y) sl_kin ∙ ap (λ (l : ℕ). kids (kin es n) l y) w.len
 
     sl_good : Good (kin es' n) (length es') n
-    sl_good = subst (λ (X : Links). Good X (length es') n) (sym sl_kin) (subst (λ (l : ℕ). Good (kin es n) l n) (sym w.len) (kin_good us m es n ats k free size S))
+    sl_good = subst (λ (X : Links). Good X (length es') n) (sym sl_kin) (subst (λ (l : ℕ). Good (kin es n) l n) (sym w.len) (kin_good S))
 
     pub held_sound : Sized k' (length ats') 65535 → Good (holdings es' n ats' free') (length ats') k' → Sound us m es' n ats' k' free' size
     held_sound z G = record {
@@ -214,6 +214,18 @@ module _ (us : List UnitRecord) (m : ℕ) (es : List EntryRecord) (n : ℕ) (ats
         let a : kids L₁ (length ats) nil ≡ without free (kids L (length ats) nil) = both.1 nil ∙ cond-true _ _ _ (eq-eqb nil nil refl) in
         let b : without free (kids L (length ats) nil) ≡ chain L.next (length ats) (L.next free) = ap (without free) free_list ∙ without_here free free _ refl in
         let c = ap length free_list in let d = ap length (a ∙ b) in omega arith
+
+  -- a record that stands in no list is written
+  pub loose_sound : (a : ℕ) (r : AttributeRecord) → a < k → ((e : ℕ) → Mem a (kids L (length ats) e) → ⊥) → Sound us m es n (set ats a r) k free size
+  loose_sound a r small loose =
+      let len = length-set ats a r in
+      let next = field (λ (x : AttributeRecord). x.next) ats a r no_attribute (let z = k_f in omega arith) in
+      let owner = field (λ (x : AttributeRecord). x.owner) ats a r no_attribute (let z = k_f in omega arith) in
+      let other : (h y : ℕ) → Mem y (kids L (length ats) h) → y ≢ a = λ h y i q. loose h (subst (λ (v : ℕ). Mem v (kids L (length ats) h)) q i) in
+      let both = rebuild (holdings es n (set ats a r) free) (length ats) k k_f kz (kids L (length ats))
+      (λ h. frame L.next _ (kids L (length ats) h) (L.first h) nil (good_seg L (length ats) k g h) (λ y i. at_point next y ∙ upd_off L.next a r.next y (other h y i)))
+      (λ h y i. let o = g.owned (h, y, i) in (o.0, at_point owner y ∙ (upd_off L.owner a r.owner y (other h y i) ∙ o.1))) in
+      held_sound es (set ats a r) k free still (rw len S.attributes_fit) (subst (λ (l : ℕ). Good (holdings es n (set ats a r) free) l k) (sym len) both.0)
 
   -- a loose record is dropped
   module _ (a : ℕ) (r : AttributeRecord) (small : a < k) (loose : (e : ℕ) → Mem a (kids L (length ats) e) → ⊥) (rn : r.next ≡ free) (ro : r.owner ≡ nil) (ra : r.attribute ≡ f a) where

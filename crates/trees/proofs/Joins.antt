@@ -26,7 +26,7 @@ ended v e = record { attribute = v; owner = e; next = 65535 }
 abbrev nxt : List AttributeRecord → ℕ → ℕ
 nxt ats y = (get_or ats y no_attribute).next
 
-module _ (us : List UnitRecord) (m : ℕ) (es : List EntryRecord) (n : ℕ) (ats : List AttributeRecord) (k free size : ℕ) (S : Sound us m es n ats k free size) where
+module _ {us : List UnitRecord} {m : ℕ} {es : List EntryRecord} {n : ℕ} {ats : List AttributeRecord} {k free size : ℕ} (S : Sound us m es n ats k free size) where
   abbrev L : Links
   L = holdings es n ats free
 
@@ -48,7 +48,7 @@ module _ (us : List UnitRecord) (m : ℕ) (es : List EntryRecord) (n : ℕ) (ats
         let er = begins a (get_or es e blank) in
         let es' = set es e er in
         let ats' = set ats a r in
-        let w = still_set us m es n ats k free size S e er e_len refl refl refl refl refl refl refl refl refl in
+        let w = still_set S e er e_len refl refl refl refl refl refl refl refl refl in
         let fa : at es' ≡ upd (at es) e a = field (λ (x : EntryRecord). x.attribute) es e er blank e_len in
         let va = field (λ (x : AttributeRecord). x.attribute) ats a r no_attribute a_len in
         let oa = field (λ (x : AttributeRecord). x.owner) ats a r no_attribute a_len in
@@ -59,11 +59,11 @@ module _ (us : List UnitRecord) (m : ℕ) (es : List EntryRecord) (n : ℕ) (ats
         let f1 : l ≡ nil → at es' e ≡ a = λ _. at_point fa e ∙ upd_at (at es) e a in
         let f2 : l ≢ nil → (at es' e ≡ at es e) × (nxt ats' l ≡ a) = λ p. absurd (p q) in
         let f3 : (y : ℕ) → y ≢ e → at es' y ≡ at es y = λ y p. at_point fa y ∙ upd_off (at es) e a y p in (
-          link_sound us m es n ats k free size S es' ats' e a l v w he small loose hl len va oa n1 n2 f1 f2 f3,
-          link_view us m es n ats k free size S es' ats' e a l v w he small loose hl len va oa n1 n2 f1 f2 f3,
+          link_sound S es' ats' e a l v w he small loose hl len va oa n1 n2 f1 f2 f3,
+          link_view S es' ats' e a l v w he small loose hl len va oa n1 n2 f1 f2 f3,
           length-set es e er,
           len,
-          link_left us m es n ats k free size S es' ats' e a l v w he small loose hl len va oa n1 n2 f1 f2 f3,
+          link_left S es' ats' e a l v w he small loose hl len va oa n1 n2 f1 f2 f3,
         )
 
     last_mem : l ≢ nil → Mem l (kids L (length ats) e)
@@ -79,7 +79,7 @@ module _ (us : List UnitRecord) (m : ℕ) (es : List EntryRecord) (n : ℕ) (ats
         let t1 = set ats a r in
         let r2 = on_to a (get_or t1 l no_attribute) in
         let ats' = set t1 l r2 in
-        let w = still us m es n ats k free size S in
+        let w = still S in
         let la : l ≢ a = λ q. loose e (subst (λ (x : ℕ). Mem x (kids L (length ats) e)) q (last_mem ne)) in
         let ll : l < length t1 = (let z = S.attributes_fit in let y = last_in_use ne in let x = length-set ats a r in omega arith) in
         let va = kept (λ (x : AttributeRecord). x.attribute) t1 l r2 no_attribute ll refl ∙ field (λ (x : AttributeRecord). x.attribute) ats a r no_attribute a_len in
@@ -91,11 +91,11 @@ module _ (us : List UnitRecord) (m : ℕ) (es : List EntryRecord) (n : ℕ) (ats
         let f1 : l ≡ nil → at es e ≡ a = λ q. absurd (ne q) in
         let f2 : l ≢ nil → (at es e ≡ at es e) × (nxt ats' l ≡ a) = λ _. (refl, at_point na l ∙ upd_at (upd (nxt ats) a nil) l a) in
         let f3 : (y : ℕ) → y ≢ e → at es y ≡ at es y = λ y p. refl in (
-          link_sound us m es n ats k free size S es ats' e a l v w he small loose hl len va oa n1 n2 f1 f2 f3,
-          link_view us m es n ats k free size S es ats' e a l v w he small loose hl len va oa n1 n2 f1 f2 f3,
+          link_sound S es ats' e a l v w he small loose hl len va oa n1 n2 f1 f2 f3,
+          link_view S es ats' e a l v w he small loose hl len va oa n1 n2 f1 f2 f3,
           refl,
           len,
-          link_left us m es n ats k free size S es ats' e a l v w he small loose hl len va oa n1 n2 f1 f2 f3,
+          link_left S es ats' e a l v w he small loose hl len va oa n1 n2 f1 f2 f3,
         )
 
   module _ (e a l : ℕ) (he : e < n) (b : Before L (length ats) e a l) where
@@ -111,18 +111,18 @@ module _ (us : List UnitRecord) (m : ℕ) (es : List EntryRecord) (n : ℕ) (ats
         let h : e < length es = (let z = S.entries_fit in omega arith) in
         let er = begins (nxt ats a) (get_or es e blank) in
         let es' = set es e er in
-        let w = still_set us m es n ats k free size S e er h refl refl refl refl refl refl refl refl refl in
+        let w = still_set S e er h refl refl refl refl refl refl refl refl refl in
         let fa : at es' ≡ upd (at es) e (nxt ats a) = field (λ (x : EntryRecord). x.attribute) es e er blank h in
         let h1 : l ≡ nil → at es' e ≡ nxt ats a = λ _. at_point fa e ∙ upd_at (at es) e (nxt ats a) in
         let h2 : l ≢ nil → (nxt ats l ≡ nxt ats a) × (at es' e ≡ at es e) = λ p. absurd (p q) in
         let h3 : (y : ℕ) → y ≢ a → y ≢ l → nxt ats y ≡ nxt ats y = λ y _ _. refl in
         let h4 : (y : ℕ) → y ≢ e → at es' y ≡ at es y = λ y p. at_point fa y ∙ upd_off (at es) e (nxt ats a) y p in (
-          unlink_sound us m es n ats k free size S es' ats e a l w he b refl refl refl h1 h2 h3 h4,
-          unlink_loose us m es n ats k free size S es' ats e a l w he b refl refl refl h1 h2 h3 h4,
+          unlink_sound S es' ats e a l w he b refl refl refl h1 h2 h3 h4,
+          unlink_loose S es' ats e a l w he b refl refl refl h1 h2 h3 h4,
           length-set es e er,
           refl,
-          unlink_left us m es n ats k free size S es' ats e a l w he b refl refl refl h1 h2 h3 h4,
-          unlink_view us m es n ats k free size S es' ats e a l w he b refl refl refl h1 h2 h3 h4,
+          unlink_left S es' ats e a l w he b refl refl refl h1 h2 h3 h4,
+          unlink_view S es' ats e a l w he b refl refl refl h1 h2 h3 h4,
         )
 
     pub unlink_after : l ≢ nil → Out es (set ats l (on_to (nxt ats a) (get_or ats l no_attribute)))
@@ -130,7 +130,7 @@ module _ (us : List UnitRecord) (m : ℕ) (es : List EntryRecord) (n : ℕ) (ats
         let h : l < length ats = (let z = S.attributes_fit in let y = prev_in_use ne in omega arith) in
         let r = on_to (nxt ats a) (get_or ats l no_attribute) in
         let ats' = set ats l r in
-        let w = still us m es n ats k free size S in
+        let w = still S in
         let va = kept (λ (x : AttributeRecord). x.attribute) ats l r no_attribute h refl in
         let oa = kept (λ (x : AttributeRecord). x.owner) ats l r no_attribute h refl in
         let na : nxt ats' ≡ upd (nxt ats) l (nxt ats a) = field (λ (x : AttributeRecord). x.next) ats l r no_attribute h in
@@ -139,10 +139,10 @@ module _ (us : List UnitRecord) (m : ℕ) (es : List EntryRecord) (n : ℕ) (ats
         let h2 : l ≢ nil → (nxt ats' l ≡ nxt ats a) × (at es e ≡ at es e) = λ _. (at_point na l ∙ upd_at (nxt ats) l (nxt ats a), refl) in
         let h3 : (y : ℕ) → y ≢ a → y ≢ l → nxt ats' y ≡ nxt ats y = λ y _ q. at_point na y ∙ upd_off (nxt ats) l (nxt ats a) y q in
         let h4 : (y : ℕ) → y ≢ e → at es y ≡ at es y = λ y p. refl in (
-          unlink_sound us m es n ats k free size S es ats' e a l w he b len va oa h1 h2 h3 h4,
-          unlink_loose us m es n ats k free size S es ats' e a l w he b len va oa h1 h2 h3 h4,
+          unlink_sound S es ats' e a l w he b len va oa h1 h2 h3 h4,
+          unlink_loose S es ats' e a l w he b len va oa h1 h2 h3 h4,
           refl,
           len,
-          unlink_left us m es n ats k free size S es ats' e a l w he b len va oa h1 h2 h3 h4,
-          unlink_view us m es n ats k free size S es ats' e a l w he b len va oa h1 h2 h3 h4,
+          unlink_left S es ats' e a l w he b len va oa h1 h2 h3 h4,
+          unlink_view S es ats' e a l w he b len va oa h1 h2 h3 h4,
         )

@@ -143,7 +143,7 @@ module _ (t : Table) (h : History) (S : Stands h t) where
       let xs = change c (placed tag) t.entries in
       all_change xs p (adopt c) refl ∙ all_change t.entries c (placed tag) (sym (one_waiting (entry_of t c).state w))
 
-  pub unit_law : (encoding : Encoding) (line : LineProgram) (x : Table × Result UnitId EditFault) → x ≡ add_unit t encoding line → Listed x.0 → Stands (unit_added x.1 ∷ h) x.0
+  pub unit_law : (encoding : Encoding) (line : Option LineProgram) (x : Table × Result UnitId EditFault) → x ≡ add_unit t encoding line → Listed x.0 → Stands (unit_added x.1 ∷ h) x.0
   unit_law encoding line x q = subst (λ (x : Table × Result UnitId EditFault). Listed x.0 → Stands (unit_added x.1 ∷ h) x.0) (sym q) (go (first_fault ((t.closed, SessionClosed) ∷ ((eqb t.units_left 0 || eqb t.entries_left 0, TableFull) ∷ []))))
     where
       go : (o : Option EditFault) → Listed (unless o as_is t (unit_done t encoding line)).0 → Stands (unit_added (unless o as_is t (unit_done t encoding line)).1 ∷ h) (unless o as_is t (unit_done t encoding line)).0
@@ -162,26 +162,26 @@ module _ (t : Table) (h : History) (S : Stands h t) where
 
   pub reserved_law : (r : Reservation) (p : UnitEntryId) (tag : ℕ) (x : Table × Result Unit Refusal) → x ≡ add_reserved t r p tag → Listed x.0 → Stands (reserved_added r p x.1 ∷ h) x.0
   reserved_law r p tag x q = subst (λ (x : Table × Result Unit Refusal). Listed x.0 → Stands (reserved_added r p x.1 ∷ h) x.0) (sym q)
-      (go (first_fault (edit_checks t (knows_both t (entry_id r) p) r.unit ((not (is_waiting (entry_of t r.entry).state), NotWaiting) ∷ []))) refl)
+      (go (first_fault (edit_checks t (knows_both t (entry_id r) p) r.id.unit ((not (is_waiting (entry_of t r.id.entry).state), NotWaiting) ∷ []))) refl)
     where
-      go : (o : Option EditFault) → first_fault (edit_checks t (knows_both t (entry_id r) p) r.unit ((not (is_waiting (entry_of t r.entry).state), NotWaiting) ∷ [])) ≡ o
+      go : (o : Option EditFault) → first_fault (edit_checks t (knows_both t (entry_id r) p) r.id.unit ((not (is_waiting (entry_of t r.id.entry).state), NotWaiting) ∷ [])) ≡ o
           → Listed (unless o (λ f. record { fault = f; reservation = r }) t (place_done t r p tag)).0 → Stands (reserved_added r p (unless o (λ f. record { fault = f; reservation = r }) t (place_done t r p tag)).1 ∷ h) (unless o (λ f. record { fault = f; reservation = r }) t (place_done t r p tag)).0
       go None e l =
-          let c = cleared t (knows_both t (entry_id r) p) r.unit ((not (is_waiting (entry_of t r.entry).state), NotWaiting) ∷ []) e in
+          let c = cleared t (knows_both t (entry_id r) p) r.id.unit ((not (is_waiting (entry_of t r.id.entry).state), NotWaiting) ∷ []) e in
           let b = and_parts (knows t (entry_id r)) _ c.0 in
           let hp = known_used t p (and_parts (knows t p) _ b.1).0 in
-          let w = waits t r.entry c.1 in
-          moved t (place_done t r p tag).0 (reserved_added r p (Ok tt)) r.entry Placed 0 refl refl (place_states r.entry p.entry tag (known_used t (entry_id r) b.0) hp) (place_count r.entry p.entry tag w ∙ omega arith) l h S
+          let w = waits t r.id.entry c.1 in
+          moved t (place_done t r p tag).0 (reserved_added r p (Ok tt)) r.id.entry Placed 0 refl refl (place_states r.id.entry p.entry tag (known_used t (entry_id r) b.0) hp) (place_count r.id.entry p.entry tag w ∙ omega arith) l h S
       go (Some f) e l = quiet t t (reserved_added r p (Err (record { fault = f; reservation = r }))) refl refl (λ e. refl) refl l h S
 
   pub back_law : (r : Reservation) (x : Table × Bool) → x ≡ give_back t r → Listed x.0 → Stands (gave_back r x.1 ∷ h) x.0
-  back_law r x q = subst (λ (x : Table × Bool). Listed x.0 → Stands (gave_back r x.1 ∷ h) x.0) (sym q) (go (knows t (entry_id r) && is_waiting (entry_of t r.entry).state) refl)
+  back_law r x q = subst (λ (x : Table × Bool). Listed x.0 → Stands (gave_back r x.1 ∷ h) x.0) (sym q) (go (knows t (entry_id r) && is_waiting (entry_of t r.id.entry).state) refl)
     where
-      go : (b : Bool) → (knows t (entry_id r) && is_waiting (entry_of t r.entry).state) ≡ b → Listed (back_as t r b).0 → Stands (gave_back r (back_as t r b).1 ∷ h) (back_as t r b).0
+      go : (b : Bool) → (knows t (entry_id r) && is_waiting (entry_of t r.id.entry).state) ≡ b → Listed (back_as t r b).0 → Stands (gave_back r (back_as t r b).1 ∷ h) (back_as t r b).0
       go true e l =
           let b = and_parts (knows t (entry_id r)) _ e in
-          moved t (back_done t r) (gave_back r true) r.entry GivenBack 0 refl refl (state_change t (back_done t r) r.entry (left GivenBack) GivenBack (known_used t (entry_id r) b.0) refl refl)
-          (all_change t.entries r.entry (left GivenBack) (sym (one_waiting (entry_of t r.entry).state b.1)) ∙ omega arith) l h S
+          moved t (back_done t r) (gave_back r true) r.id.entry GivenBack 0 refl refl (state_change t (back_done t r) r.id.entry (left GivenBack) GivenBack (known_used t (entry_id r) b.0) refl refl)
+          (all_change t.entries r.id.entry (left GivenBack) (sym (one_waiting (entry_of t r.id.entry).state b.1)) ∙ omega arith) l h S
       go false e l = quiet t t (gave_back r false) refl refl (λ e. refl) refl l h S
 
   -- who stands in a list is placed

@@ -10,6 +10,7 @@ mod Seeks
 mod Edits
 mod Empty
 mod Walks
+mod Runs
 mod Holdings
 mod Joins
 mod Values

@@ -18,8 +18,8 @@ take_set_in us m i x h l =
     get_or-take m (set us i x) y no_unit hy ∙ (at_set us i x no_unit (omega arith) y
     ∙ (ap (λ (v : UnitRecord). upd (λ _. v) i x y) (sym (get_or-take m us y no_unit hy)) ∙ sym (at_set (take m us) i x no_unit (omega arith) y))))
 
-pub mark_sound : (us : List UnitRecord) (m : ℕ) (es : List EntryRecord) (n : ℕ) (ats : List AttributeRecord) (k free size : ℕ) → Sound us m es n ats k free size → (i : ℕ) (x : UnitRecord) → i < length us → x.root ≡ (get_or us i no_unit).root → Sound (set us i x) m es n ats k free size
-mark_sound us m es n ats k free size S i x h q = record {
+pub mark_sound : {us : List UnitRecord} {m : ℕ} {es : List EntryRecord} {n : ℕ} {ats : List AttributeRecord} {k free size : ℕ} → Sound us m es n ats k free size → (i : ℕ) (x : UnitRecord) → i < length us → x.root ≡ (get_or us i no_unit).root → Sound (set us i x) m es n ats k free size
+mark_sound {us = us} {es = es} {n = n} S i x h q = record {
   units_fit = (let z = length-set us i x in let y = S.units_fit in (omega arith, omega arith));
   entries_fit = S.entries_fit;
   attributes_fit = S.attributes_fit;

@@ -27,7 +27,10 @@ times_once c (x ∷ xs) m n = go (cases_eq c x) (times_once c xs) m
     go (inr q) ih (inl p) = absurd (q p)
     go (inr q) ih (inr p) = let k = ih p (λ h. n (rw (without_past c x xs (λ z. q (sym z))) (inr h))) in rw (ne_eqb c x q) (omega arith)
 
-module _ (r : Records) (S : Holds r) where
+module _ (r : Records) where
+  S : Holds r
+  S = r.sound
+
   abbrev ks : ℕ → List ℕ
   ks = kids (kin r.entries.now r.entry_count) (length r.entries.now)
 
@@ -67,7 +70,7 @@ module _ (r : Records) (S : Holds r) where
     where
       none : (x : ℕ) → Mem x (ks nil) → ⊥
       none x mm = subst (Mem x) (chain_nil (kin r.entries.now r.entry_count).next (length r.entries.now) ((kin r.entries.now r.entry_count).first nil)
-          (cond-false (ltb nil r.entry_count) _ nil (le-ltb nil r.entry_count (small r.units.now r.unit_count r.entries.now r.entry_count r.attributes.now r.attribute_count r.free (length r.pool.now) S)))) mm
+          (cond-false (ltb nil r.entry_count) _ nil (le-ltb nil r.entry_count (small S)))) mm
 
   pub lists_of : Listed (view r)
   lists_of = record {
@@ -75,10 +78,10 @@ module _ (r : Records) (S : Holds r) where
         let h : e < r.entry_count = in_use e q in
         let ne = placed_parent e h (sym (state_is e h) ∙ q) in
         let p = pa r.entries.now e in
-        let hp = parent_in r.units.now r.unit_count r.entries.now r.entry_count r.attributes.now r.attribute_count r.free (length r.pool.now) S e h ne in (
+        let hp = parent_in S e h ne in (
           p,
           (let z = view_count r in omega arith),
-          ap (times e) (children_are p hp) ∙ times_once e (ks p) (has_mem e (ks p) (S.listed e h ne)) (once (kin r.entries.now r.entry_count) (length r.entries.now) r.entry_count (small r.units.now r.unit_count r.entries.now r.entry_count r.attributes.now r.attribute_count r.free (length r.pool.now) S) (kin_of r S) p e),
+          ap (times e) (children_are p hp) ∙ times_once e (ks p) (has_mem e (ks p) (S.listed e h ne)) (once (kin r.entries.now r.entry_count) (length r.entries.now) r.entry_count (small S) (kin_of r) p e),
           λ x l d. let hx : x < r.entry_count = (let z = view_count r in omega arith) in ap (times e) (children_are x hx) ∙ times_none e (ks x) (λ m. d (sym (member e x m).1)),
         );
     others = λ e n x l. let hx : x < r.entry_count = (let z = view_count r in omega arith) in ap (times e) (children_are x hx) ∙ times_none e (ks x) (λ m. n (member e x m).2);

@@ -30,7 +30,10 @@ children_all r = fun_ext (λ e. elim (cases_lt e r.entry_count) [
 ])
 
 -- the events of a unit's tree are those over the records, and enter what is reached
-module _ (r : Records) (S : Holds r) (u : UnitId) where
+module _ (r : Records) (u : UnitId) where
+  S : Holds r
+  S = r.sound
+
   abbrev es : List EntryRecord
   es = r.entries.now
 
@@ -47,7 +50,7 @@ module _ (r : Records) (S : Holds r) (u : UnitId) where
   Matches = (unit_events r u ≡ events_in (view r) u) × EntersReached (view r) u
 
   nz : n ≤ nil
-  nz = small r.units.now r.unit_count es n r.attributes.now r.attribute_count r.free (length r.pool.now) S
+  nz = small S
 
   tree_is : (e : ℕ) → events_from (view r) e ≡ events ch n e
   tree_is e = ap (λ (c : ℕ → List ℕ). events c (length (view r).entries) e) (children_all r) ∙ ap (λ (m : ℕ). events ch m e) (view_count r)
@@ -63,20 +66,20 @@ module _ (r : Records) (S : Holds r) (u : UnitId) where
 
   module _ (q : knows_unit (view r) u ≡ true) where
     root_is : root ≡ (get_or r.units.now u.unit no_unit).root
-    root_is = cond-true (knows_unit (view r) u) _ nil q ∙ ap (λ (x : UnitRecord). x.root) (view_unit r u.unit (known_unit r S u q))
+    root_is = cond-true (knows_unit (view r) u) _ nil q ∙ ap (λ (x : UnitRecord). x.root) (view_unit r u.unit (known_unit r u q))
 
     root_used : root < n
-    root_used = rw root_is (S.rooted u.unit (known_unit r S u q)).0
+    root_used = rw root_is (S.rooted u.unit (known_unit r u q)).0
 
     root_top : pa es root ≡ nil
     root_top =
-        let k : kind (st es root) ≡ 0 = rw root_is (S.rooted u.unit (known_unit r S u q)).1 in
-        parentless r.units.now r.unit_count es n r.attributes.now r.attribute_count r.free (length r.pool.now) S root root_used (ap (λ (x : ℕ). eqb x 2) k)
+        let k : kind (st es root) ≡ 0 = rw root_is (S.rooted u.unit (known_unit r u q)).1 in
+        parentless S root root_used (ap (λ (x : ℕ). eqb x 2) k)
 
     fit : Fit (fs es) (nx es) (pa es) n root ch
     fit = record {
       small = nz;
-      segs = λ p h. subst (λ (x : ℕ). Seg (nx es) x (ch p) nil) (cond-true (ltb p n) (fs es p) nil (lt-ltb p n h)) (good_seg (kin es n) (length es) n (kin_of r S) p);
+      segs = λ p h. subst (λ (x : ℕ). Seg (nx es) x (ch p) nil) (cond-true (ltb p n) (fs es p) nil (lt-ltb p n h)) (good_seg (kin es n) (length es) n (kin_of r) p);
       own = λ p c h m. (let o = S.kin_owned (p, c, m) in (o.0, (λ z. (let y : p ≡ nil = sym o.1 ∙ (ap (pa es) z ∙ root_top) in let k = nz in omega arith)), o.1));
     }
 

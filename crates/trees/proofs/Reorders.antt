@@ -116,16 +116,16 @@ module _ (es : List EntryRecord) (p c e : ℕ) (hp : p < length es) (hc : c < le
   join_last = changes (λ (x : EntryRecord). x.last) e2 p (with_last c) h3
       ∙ ap (λ (f : ℕ → ℕ). upd f p c) (keeps (λ (x : EntryRecord). x.last) e1 e (with_next c) h2 (λ r. refl) ∙ keeps (λ (x : EntryRecord). x.last) es c (with_next 65535) hc (λ r. refl))
 
-module _ (us : List UnitRecord) (m : ℕ) (es : List EntryRecord) (n : ℕ) (ats : List AttributeRecord) (k free size : ℕ) (S : Sound us m es n ats k free size)
+module _ {us : List UnitRecord} {m : ℕ} {es : List EntryRecord} {n : ℕ} {ats : List AttributeRecord} {k free size : ℕ} (S : Sound us m es n ats k free size)
     (c p l : ℕ) (hp : p < n) (b : Before (kin es n) (length es) p c l) where
   abbrev ks : ℕ → List ℕ
   ks = kids (kin es n) (length es)
 
   nz : n ≤ nil
-  nz = small us m es n ats k free size S
+  nz = small S
 
   g : Good (kin es n) (length es) n
-  g = kin_good us m es n ats k free size S
+  g = kin_good S
 
   fits : n ≤ length es
   fits = S.entries_fit.0
@@ -289,8 +289,8 @@ module _ (us : List UnitRecord) (m : ℕ) (es : List EntryRecord) (n : ℕ) (ats
       akin = λ e h d. let q = at_point new_parent e in at_point new_unit e ∙ (S.akin e h (λ z. d (q ∙ z)) ∙ (ap (un es) (sym q) ∙ sym (at_point new_unit (pa new e))));
       housed = λ e h. subst (λ (v : ℕ). v < m) (sym (at_point new_unit e)) (S.housed e h);
       rooted = λ u h. let r = S.rooted u h in let rt = (get_or us u no_unit).root in (r.0, ap kind (at_point new_state rt) ∙ r.1, at_point new_unit rt ∙ r.2);
-      held_ends = (subst (λ (L : Links). Good L (length ats) k) (sym new_held) (held_good us m es n ats k free size S)).ends;
-      held_owned = (subst (λ (L : Links). Good L (length ats) k) (sym new_held) (held_good us m es n ats k free size S)).owned;
+      held_ends = (subst (λ (L : Links). Good L (length ats) k) (sym new_held) (held_good S)).ends;
+      held_owned = (subst (λ (L : Links). Good L (length ats) k) (sym new_held) (held_good S)).owned;
     }
 
     new_view : entries_in new n ats free ≡ change p (with_children (moved_last c (ks p))) (entries_in es n ats free)
@@ -310,6 +310,6 @@ module _ (us : List UnitRecord) (m : ℕ) (es : List EntryRecord) (n : ℕ) (ats
         split y true = refl
         split y false = refl
 
-    pub moved : (es' : List EntryRecord) → es' ≡ attached (detached es p c l) p c (ls es p) → Stepped us m es n ats k free size S es' (change p (with_children (moved_last c (get_or (entries_in es n ats free) p no_entry).children)) (entries_in es n ats free))
-    moved es' q = subst (λ (x : List EntryRecord). Stepped us m es n ats k free size S x (change p (with_children (moved_last c (get_or (entries_in es n ats free) p no_entry).children)) (entries_in es n ats free))) (sym q)
+    pub moved : (es' : List EntryRecord) → es' ≡ attached (detached es p c l) p c (ls es p) → Stepped S es' (change p (with_children (moved_last c (get_or (entries_in es n ats free) p no_entry).children)) (entries_in es n ats free))
+    moved es' q = subst (λ (x : List EntryRecord). Stepped S x (change p (with_children (moved_last c (get_or (entries_in es n ats free) p no_entry).children)) (entries_in es n ats free))) (sym q)
         (new_sound, new_view ∙ ap (λ (x : Entry). change p (with_children (moved_last c x.children)) (entries_in es n ats free)) (sym (entries_at es n ats free p hp)), new_length, ap (λ (L : Links). kids L (length ats) nil) new_held)

@@ -11,17 +11,17 @@ use Rattle.trees.specs.declared.records.State.TheVariants.{GivenBack}
 use Rattle.trees.specs.Model.{Table, unless, as_is, change, left, with_entries, place, take_out, grant, open_unit, new_id, new_reservation}
 
 module _ (t : Table) where
-  abbrev pub unit_done : (encoding : Encoding) (line : LineProgram) → Table × Result UnitId EditFault
+  abbrev pub unit_done : (encoding : Encoding) (line : Option LineProgram) → Table × Result UnitId EditFault
   unit_done encoding line = (open_unit t encoding line, Ok (record { table = t.number; unit = length t.units }))
 
   abbrev pub reserve_done : (u : UnitId) → Table × Result (UnitEntryId × Reservation) EditFault
   reserve_done u = (grant t u.unit, Ok (new_id t u.unit, new_reservation t u.unit))
 
   abbrev pub place_done : (r : Reservation) (p : UnitEntryId) (tag : ℕ) → Table × Result Unit Refusal
-  place_done r p tag = (place t r.entry p.entry tag, Ok tt)
+  place_done r p tag = (place t r.id.entry p.entry tag, Ok tt)
 
   abbrev pub back_done : (r : Reservation) → Table
-  back_done r = with_entries t (change r.entry (left GivenBack) t.entries)
+  back_done r = with_entries t (change r.id.entry (left GivenBack) t.entries)
 
   abbrev pub back_as : (r : Reservation) → Bool → Table × Bool
   back_as r b = cond b (back_done r, true) (t, false)

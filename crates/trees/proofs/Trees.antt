@@ -35,7 +35,7 @@ placed_kind Placed e = refl
 placed_kind TakenOut e = absurd (true≢false (sym e))
 placed_kind GivenBack e = absurd (true≢false (sym e))
 
-module _ (us : List UnitRecord) (m : ℕ) (es : List EntryRecord) (n : ℕ) (ats : List AttributeRecord) (k free size : ℕ) (S : Sound us m es n ats k free size) where
+module _ {us : List UnitRecord} {m : ℕ} {es : List EntryRecord} {n : ℕ} {ats : List AttributeRecord} {k free size : ℕ} (S : Sound us m es n ats k free size) where
   pub small : n ≤ nil
   unfolding nil
   small = let s = S.entries_fit in omega arith
@@ -89,7 +89,7 @@ module _ (us : List UnitRecord) (m : ℕ) (es : List EntryRecord) (n : ℕ) (ats
     calm_kids y = ap (λ (L : Links). kids L (length es') y) calm_kin ∙ ap (λ (l : ℕ). kids (kin es n) l y) w.len
 
     calm_good : Good (kin es' n) (length es') n
-    calm_good = subst (λ (L : Links). Good L (length es') n) (sym calm_kin) (subst (λ (l : ℕ). Good (kin es n) l n) (sym w.len) (kin_good us m es n ats k free size S))
+    calm_good = subst (λ (L : Links). Good L (length es') n) (sym calm_kin) (subst (λ (l : ℕ). Good (kin es n) l n) (sym w.len) (kin_good S))
 
     pub calm_sound : ((e : ℕ) → e < n → eqb (kind (st es' e)) 2 ≡ eqb (kind (st es e)) 2) → ((e : ℕ) → e < n → kind (st es e) ≡ 0 → kind (st es' e) ≡ 0) → Sound us m es' n ats k free size
     calm_sound ks rs = record {
@@ -105,8 +105,8 @@ module _ (us : List UnitRecord) (m : ℕ) (es : List EntryRecord) (n : ℕ) (ats
       akin = λ e h ne. let q = at_point w.parent e in at_point w.unit e ∙ (S.akin e h (λ z. ne (q ∙ z)) ∙ (ap (un es) (sym q) ∙ sym (at_point w.unit (pa es' e))));
       housed = λ e h. subst (λ (v : ℕ). v < m) (sym (at_point w.unit e)) (S.housed e h);
       rooted = λ u h. let r = S.rooted u h in (r.0, rs (get_or us u no_unit).root r.0 r.1, at_point w.unit (get_or us u no_unit).root ∙ r.2);
-      held_ends = (subst (λ (L : Links). Good L (length ats) k) (sym calm_held) (held_good us m es n ats k free size S)).ends;
-      held_owned = (subst (λ (L : Links). Good L (length ats) k) (sym calm_held) (held_good us m es n ats k free size S)).owned;
+      held_ends = (subst (λ (L : Links). Good L (length ats) k) (sym calm_held) (held_good S)).ends;
+      held_owned = (subst (λ (L : Links). Good L (length ats) k) (sym calm_held) (held_good S)).owned;
     }
 
   -- one record written, all links kept
@@ -172,7 +172,7 @@ module _ (us : List UnitRecord) (m : ℕ) (es : List EntryRecord) (n : ℕ) (ats
     }
 
     pl_both : Good (kin es' n) (length es) n × ((y : ℕ) → kids (kin es' n) (length es) y ≡ added p c (kids (kin es n) (length es)) y)
-    pl_both = append_good (kin es n) (kin es' n) (length es) n p c l (let s = S.entries_fit in omega arith) small (kin_good us m es n ats k free size S) pl_append
+    pl_both = append_good (kin es n) (kin es' n) (length es) n p c l (let s = S.entries_fit in omega arith) small (kin_good S) pl_append
 
     pub pl_kids : (y : ℕ) → kids (kin es' n) (length es') y ≡ added p c (kids (kin es n) (length es)) y
     pl_kids y = ap (λ (v : ℕ). kids (kin es' n) v y) w.len ∙ pl_both.1 y
@@ -227,8 +227,8 @@ module _ (us : List UnitRecord) (m : ℕ) (es : List EntryRecord) (n : ℕ) (ats
       housed = λ e h. subst (λ (v : ℕ). v < m) (sym (at_point w.unit e)) (S.housed e h);
       rooted = λ u h. let r = S.rooted u h in let rt = (get_or us u no_unit).root in
           (r.0, ap kind (at_point w.state rt ∙ upd_off (st es) c Placed rt (root_not u c h (λ z. (let y = ap kind wait in omega arith)))) ∙ r.1, at_point w.unit rt ∙ r.2);
-      held_ends = (subst (λ (L : Links). Good L (length ats) k) (sym pl_held) (held_good us m es n ats k free size S)).ends;
-      held_owned = (subst (λ (L : Links). Good L (length ats) k) (sym pl_held) (held_good us m es n ats k free size S)).owned;
+      held_ends = (subst (λ (L : Links). Good L (length ats) k) (sym pl_held) (held_good S)).ends;
+      held_owned = (subst (λ (L : Links). Good L (length ats) k) (sym pl_held) (held_good S)).owned;
     }
 
     pub place_held : kids (holdings es' n ats free) (length ats) nil ≡ kids (holdings es n ats free) (length ats) nil

@@ -129,7 +129,6 @@ module _ (f : ℕ → Bool) (ds : List ℕ) (c : ℕ) where
 
 -- a turn begins at `cur`, with the last base type that is done at `prev`
 pub record Turn (old r : Records) (p prev cur : ℕ) : Type 0 where
-  pub sound : Holds r
   pub done : List ℕ
   pub ends : stop (nx old.entries.now) (length old.entries.now) cur ≡ nil
   pub split : kids (kin old.entries.now old.entry_count) (length old.entries.now) p ≡ done ++ chain (nx old.entries.now) (length old.entries.now) cur
@@ -137,10 +136,13 @@ pub record Turn (old r : Records) (p prev cur : ℕ) : Type 0 where
   pub before : prev ≡ last_or nil (filter (is_base (view old)) done)
   pub lined : view r ≡ recast (view old) p (lineup (is_base (view old)) done (chain (nx old.entries.now) (length old.entries.now) cur))
 
-pub sizes : (r : Records) → Holds r → r.entry_count ≤ nil
-sizes r S = small r.units.now r.unit_count r.entries.now r.entry_count r.attributes.now r.attribute_count r.free (length r.pool.now) S
+pub sizes : (r : Records) → r.entry_count ≤ nil
+sizes r = small r.sound
 
-module _ (old : Records) (S : Holds old) (p : ℕ) (hp : p < old.entry_count) where
+module _ (old : Records) (p : ℕ) (hp : p < old.entry_count) where
+  S : Holds old
+  S = old.sound
+
   abbrev nx₀ : ℕ → ℕ
   nx₀ = nx old.entries.now
 
@@ -173,7 +175,6 @@ module _ (old : Records) (S : Holds old) (p : ℕ) (hp : p < old.entry_count) wh
       let a = fs old.entries.now p in
       let e : kids L₀ F₀ p ≡ chain nx₀ F₀ a = ap (chain nx₀ F₀) first₀ in
       record {
-        sound = S;
         done = [];
         ends = ap (stop nx₀ F₀) (sym first₀) ∙ S.kin_ends p;
         split = e;
@@ -215,10 +216,10 @@ module _ (old : Records) (S : Holds old) (p : ℕ) (hp : p < old.entry_count) wh
     kids_now = sym (ap (λ (x : Entry). x.children) (view_entry r p turn_parent)) ∙ children_now
 
     pub turn_before : Before L F p cur prev
-    turn_before = subst (Before L F p cur) (sym T.before) (stands_before L F r.entry_count p cur (filter (is_base v₀) ds) (rest ++ filter (λ x. not (is_base v₀ x)) ds) (sizes r T.sound) (kin_of r T.sound) kids_now)
+    turn_before = subst (Before L F p cur) (sym T.before) (stands_before L F r.entry_count p cur (filter (is_base v₀) ds) (rest ++ filter (λ x. not (is_base v₀ x)) ds) (sizes r) (kin_of r) kids_now)
 
     pub turn_in : cur < r.entry_count
-    turn_in = (T.sound.kin_owned (p, cur, turn_before.0)).0
+    turn_in = (r.sound.kin_owned (p, cur, turn_before.0)).0
 
     same_base : is_base (view r) cur ≡ is_base v₀ cur
     same_base = ap (λ (t : Table). is_base t cur) line ∙ recast_base v₀ p (lineup (is_base v₀) ds (cur ∷ rest)) used cur
@@ -235,16 +236,16 @@ module _ (old : Records) (S : Holds old) (p : ℕ) (hp : p < old.entry_count) wh
       | inr e ↦ cond-false _ _ _ (same_base ∙ e) ∙ (ap (λ (l : List ℕ). recast (view r) p (moved_last cur l)) children_now
           ∙ (ap (λ (t : Table). recast t p (moved_last cur (lineup (is_base v₀) ds (cur ∷ rest)))) line
           ∙ (recast_again v₀ p (lineup (is_base v₀) ds (cur ∷ rest)) (moved_last cur (lineup (is_base v₀) ds (cur ∷ rest))) used
-          ∙ ap (recast v₀ p) (line_moved (is_base v₀) ds cur rest e (λ m. once L F r.entry_count (sizes r T.sound) (kin_of r T.sound) p cur (subst (λ (l : List ℕ). Mem cur (without cur l)) (sym kids_now) m))))))
+          ∙ ap (recast v₀ p) (line_moved (is_base v₀) ds cur rest e (λ m. once L F r.entry_count (sizes r) (kin_of r) p cur (subst (λ (l : List ℕ). Mem cur (without cur l)) (sym kids_now) m))))))
     ]
 
     no_nil : Mem nil (kids L₀ F₀ p) → ⊥
-    no_nil m = let k = (S.kin_owned (p, nil, m)).0 in let z = sizes old S in omega arith
+    no_nil m = let k = (S.kin_owned (p, nil, m)).0 in let z = sizes old in omega arith
 
     -- the last turn
     pub turn_ends : (r' : Records) → view r' ≡ settled (view r) p cur → cur ≡ ls old.entries.now p → view r' ≡ recast v₀ p (bases_first v₀ (entry_of v₀ p).children)
     turn_ends r' v q =
-        let e : nx₀ cur ≡ nil = ap nx₀ (q ∙ S.lasts p hp) ∙ seg_last nx₀ nil nil cur (kids L₀ F₀ p) (L₀.first p) (good_seg L₀ F₀ old.entry_count (kin_of old S) p) old_mem in
+        let e : nx₀ cur ≡ nil = ap nx₀ (q ∙ S.lasts p hp) ∙ seg_last nx₀ nil nil cur (kids L₀ F₀ p) (L₀.first p) (good_seg L₀ F₀ old.entry_count (kin_of old) p) old_mem in
         let z : rest ≡ [] = chain_nil nx₀ F₀ (nx₀ cur) e in
         let w : ds ++ cur ∷ [] ≡ (entry_of v₀ p).children = sym (children₀ ∙ (one_more ∙ (ap (λ (l : List ℕ). (ds ++ cur ∷ []) ++ l) z ∙ append-nil (ds ++ cur ∷ [])))) in
         v ∙ (settled_line ∙ (ap (λ (l : List ℕ). recast v₀ p (lineup (is_base v₀) (ds ++ cur ∷ []) l)) z ∙ ap (λ (l : List ℕ). recast v₀ p (bases_first v₀ l)) w))
@@ -252,7 +253,7 @@ module _ (old : Records) (S : Holds old) (p : ℕ) (hp : p < old.entry_count) wh
     -- another one follows
     module _ (ne : cur ≢ ls old.entries.now p) where
       on : nx₀ cur ≢ nil
-      on q = ne (sym (S.lasts p hp ∙ end_last nx₀ nil cur nil (kids L₀ F₀ p) (L₀.first p) q no_nil (good_seg L₀ F₀ old.entry_count (kin_of old S) p) old_mem))
+      on q = ne (sym (S.lasts p hp ∙ end_last nx₀ nil cur nil (kids L₀ F₀ p) (L₀.first p) q no_nil (good_seg L₀ F₀ old.entry_count (kin_of old) p) old_mem))
 
       next_same : nx r.entries.now cur ≡ nx₀ cur
       next_same =
@@ -260,14 +261,13 @@ module _ (old : Records) (S : Holds old) (p : ℕ) (hp : p < old.entry_count) wh
           let O = filter (λ x. not (is_base v₀ x)) ds in
           let e : kids L F p ≡ filter (is_base v₀) ds ++ (cur ∷ (nx₀ cur ∷ (chain nx₀ F₀ (nx₀ (nx₀ cur)) ++ O))) = kids_now ∙ ap (λ (l : List ℕ). lineup (is_base v₀) ds (cur ∷ l)) more in
           seg_next (nx r.entries.now) nil cur (nx₀ cur) (filter (is_base v₀) ds) (chain nx₀ F₀ (nx₀ (nx₀ cur)) ++ O) (L.first p)
-          (subst (λ (l : List ℕ). Seg (nx r.entries.now) (L.first p) l nil) e (good_seg L F r.entry_count (kin_of r T.sound) p))
+          (subst (λ (l : List ℕ). Seg (nx r.entries.now) (L.first p) l nil) e (good_seg L F r.entry_count (kin_of r) p))
 
       pub turn_less : length (chain nx₀ F₀ (nx r.entries.now cur)) < length (chain nx₀ F₀ cur)
       turn_less = let a = ap (λ (x : ℕ). length (chain nx₀ F₀ x)) next_same in let b = ap length step.0 in omega arith
 
-      pub turn_next : (r' : Records) (prev' : ℕ) → Holds r' → view r' ≡ settled (view r) p cur → prev' ≡ cond (is_base (view r) cur) cur prev → Turn old r' p prev' (nx r.entries.now cur)
-      turn_next r' prev' S' v q = subst (Turn old r' p prev') (sym next_same) (record {
-        sound = S';
+      pub turn_next : (r' : Records) (prev' : ℕ) → view r' ≡ settled (view r) p cur → prev' ≡ cond (is_base (view r) cur) cur prev → Turn old r' p prev' (nx r.entries.now cur)
+      turn_next r' prev' v q = subst (Turn old r' p prev') (sym next_same) (record {
         done = ds ++ cur ∷ [];
         ends = step.1;
         split = one_more;

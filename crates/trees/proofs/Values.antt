@@ -4,9 +4,10 @@ use Rattle.std.proofs.lemmas.List.{set-get_or}
 use Rattle.trees.specs.declared.records.Attribute.{Attribute}
 use Rattle.trees.specs.declared.records.AttributeValue.{AttributeValue}
 use Rattle.trees.specs.declared.records.Records.{Records}
+use Rattle.trees.specs.declared.attributes.Place.{Place}
 use Rattle.trees.specs.declared.records.EditFault.TheVariants.{SiblingName, SpanOutOfBounds, TableFull}
 use Rattle.trees.specs.Model.{Entry, Table, Check, entry_of, no_entry, amended, named, fits, first_fault}
-use Rattle.trees.specs.View.{view, Holds}
+use Rattle.trees.specs.View.{view}
 use Rattle.trees.specs.Attributes.{attribute_in, records_of, FoundAt, NotFound}
 use Rattle.trees.proofs.Edits.{view_entry}
 use Rattle.trees.proofs.Holdings.{named_split}
@@ -15,14 +16,14 @@ use Rattle.trees.proofs.Holdings.{named_split}
 pub view_attributes : (r : Records) (e : ℕ) → e < r.entry_count → (entry_of (view r) e).attributes ≡ map (attribute_in r.attributes.now) (records_of r e)
 view_attributes r e h = ap (λ (x : Entry). x.attributes) (view_entry r e h)
 
-pub is_named : (r : Records) (e name before at : ℕ) → e < r.entry_count → FoundAt r e name before at → named name (entry_of (view r) e).attributes ≡ true
-is_named r e name before at h w = ap (named name) (view_attributes r e h ∙ ap (map (attribute_in r.attributes.now)) w.list) ∙ named_split name (attribute_in r.attributes.now) w.behind at w.ahead w.same
+pub is_named : (r : Records) (e name : ℕ) (place : Place) → e < r.entry_count → FoundAt r e name place → named name (entry_of (view r) e).attributes ≡ true
+is_named r e name place h w = ap (named name) (view_attributes r e h ∙ ap (map (attribute_in r.attributes.now)) w.list) ∙ named_split name (attribute_in r.attributes.now) w.behind place.at w.ahead w.same
 
-pub not_named : (r : Records) (e name before : ℕ) → e < r.entry_count → NotFound r e name before → named name (entry_of (view r) e).attributes ≡ false
-not_named r e name before h w = ap (named name) (view_attributes r e h) ∙ w.none
+pub not_named : (r : Records) (e name last : ℕ) → e < r.entry_count → NotFound r e name last → named name (entry_of (view r) e).attributes ≡ false
+not_named r e name last h w = ap (named name) (view_attributes r e h) ∙ w.none
 
-pub found_in : (r : Records) → Holds r → (e name before at : ℕ) → FoundAt r e name before at → at < r.attribute_count
-found_in r S e name before at w = (S.held_owned (e, at, w.order.0)).0
+pub found_in : (r : Records) (e name : ℕ) (place : Place) → FoundAt r e name place → place.at < r.attribute_count
+found_in r e name place w = (r.sound.held_owned (e, place.at, w.order.0)).0
 
 -- two ways to amend that agree on the attributes at hand
 pub amend_same : (t : Table) (e : ℕ) (g h : List Attribute → List Attribute) (s : ℕ) → g (entry_of t e).attributes ≡ h (entry_of t e).attributes → amended t e g s ≡ amended t e h s

@@ -13,7 +13,7 @@ use Rattle.trees.specs.declared.records.State.{State}
 use Rattle.trees.specs.declared.records.Note.{Note}
 use Rattle.trees.specs.Lists.{nil, Links, kids}
 use Rattle.trees.specs.Model.{Entry, no_entry, change}
-use Rattle.trees.specs.View.{blank, no_attribute, kin, holdings, attributes_at, entry_from, entry_at, entries_in, Sound, Holds}
+use Rattle.trees.specs.View.{blank, no_attribute, kin, holdings, attributes_at, entry_from, entry_at, entries_in, Sound}
 use Rattle.trees.proofs.Families.{Good}
 
 -- f with v at i
@@ -148,15 +148,15 @@ module _ (es : List EntryRecord) (n : ℕ) (ats : List AttributeRecord) (free i 
       ∙ sym (change_at (entries_in es n ats free) i f hl y))))))))
 
 -- the family of children, and that of attributes
-pub kin_good : (us : List UnitRecord) (m : ℕ) (es : List EntryRecord) (n : ℕ) (ats : List AttributeRecord) (k free size : ℕ) → Sound us m es n ats k free size → Good (kin es n) (length es) n
-kin_good us m es n ats k free size S = record { ends = S.kin_ends; owned = S.kin_owned }
+pub kin_good : {us : List UnitRecord} {m : ℕ} {es : List EntryRecord} {n : ℕ} {ats : List AttributeRecord} {k free size : ℕ} → Sound us m es n ats k free size → Good (kin es n) (length es) n
+kin_good S = record { ends = S.kin_ends; owned = S.kin_owned }
 
-pub held_good : (us : List UnitRecord) (m : ℕ) (es : List EntryRecord) (n : ℕ) (ats : List AttributeRecord) (k free size : ℕ) → Sound us m es n ats k free size → Good (holdings es n ats free) (length ats) k
-held_good us m es n ats k free size S = record { ends = S.held_ends; owned = S.held_owned }
+pub held_good : {us : List UnitRecord} {m : ℕ} {es : List EntryRecord} {n : ℕ} {ats : List AttributeRecord} {k free size : ℕ} → Sound us m es n ats k free size → Good (holdings es n ats free) (length ats) k
+held_good S = record { ends = S.held_ends; owned = S.held_owned }
 
 -- the same, of a struct
-pub kin_of : (r : Records) → Holds r → Good (kin r.entries.now r.entry_count) (length r.entries.now) r.entry_count
-kin_of r S = record { ends = S.kin_ends; owned = S.kin_owned }
+pub kin_of : (r : Records) → Good (kin r.entries.now r.entry_count) (length r.entries.now) r.entry_count
+kin_of r = record { ends = r.sound.kin_ends; owned = r.sound.kin_owned }
 
-pub held_of : (r : Records) → Holds r → Good (holdings r.entries.now r.entry_count r.attributes.now r.free) (length r.attributes.now) r.attribute_count
-held_of r S = record { ends = S.held_ends; owned = S.held_owned }
+pub held_of : (r : Records) → Good (holdings r.entries.now r.entry_count r.attributes.now r.free) (length r.attributes.now) r.attribute_count
+held_of r = record { ends = r.sound.held_ends; owned = r.sound.held_owned }

@@ -1,5 +1,6 @@
 -- What a table tells of itself: entries by state, records left, and whether a unit names a file.
-use Rattle.std.specs.Prelude.{ℕ, ◌+◌, ◌≤◌, Bool, true, false, ◌&&◌, ◌||◌, List, [], ◌∷◌, Some, None, ◌==◌}
+use Rattle.std.specs.Prelude.{ℕ, ◌+◌, ◌≤◌, Bool, true, false, ◌&&◌, List, Some, None, ◌==◌}
+use Rattle.std.specs.List.{list_any}
 use Rattle.trees.specs.declared.records.Counts.{Counts}
 use Rattle.trees.specs.declared.records.Left.{Left}
 use Rattle.trees.specs.declared.records.UnitId.{UnitId}
@@ -79,13 +80,11 @@ names_file (FileIndex (Some n)) = true
 
 -- some attribute names a file
 abbrev pub any_file : List Attribute → Bool
-any_file [] = false
-any_file (a ∷ as') = names_file a.value || any_file as'
+any_file = list_any (λ a. names_file a.value)
 
 -- some entry of a unit, whatever its state, has one that does
 abbrev pub file_in : ℕ → List Entry → Bool
-file_in u [] = false
-file_in u (e ∷ es) = (e.unit == u && any_file e.attributes) || file_in u es
+file_in u = list_any (λ e. e.unit == u && any_file e.attributes)
 
 abbrev pub uses_files : Table → UnitId → Bool
 uses_files t u = knows_unit t u && file_in u.unit t.entries

@@ -1,11 +1,12 @@
 -- What a cursor has yet to give.
-use Rattle.std.specs.Prelude.{◌≡◌, ℕ, ◌<◌, true, false, cond, List, map, length, Some, None, Option, slice_index_or}
+use Rattle.std.specs.Prelude.{◌≡◌, ℕ, true, false, cond, List, map, Some, None, Option, slice_index_or}
 use Rattle.trees.specs.declared.records.UnitEntryId.{UnitEntryId}
 use Rattle.trees.specs.declared.records.Records.{Records}
 use Rattle.trees.specs.declared.records.EntryRecord.{EntryRecord}
 use Rattle.trees.specs.declared.records.Attribute.{Attribute}
 use Rattle.trees.specs.declared.records.AttributeRecord.{AttributeRecord}
-use Rattle.trees.specs.Lists.{nil, chain, stop, Mem}
+use Rattle.trees.specs.Chains.{chain_from}
+use Rattle.trees.specs.Lists.{nil}
 use Rattle.trees.specs.Model.{Table, knows, entry_of}
 use Rattle.trees.specs.View.{view, blank, no_attribute}
 
@@ -16,14 +17,7 @@ RecordOf t i (Some e) = (knows t i ≡ true) × (e.tag ≡ (entry_of t i.entry).
 
 -- the entries from a on
 abbrev pub siblings_from : List EntryRecord → ℕ → List ℕ
-siblings_from es a = chain (λ i. (slice_index_or es i blank).next) (length es) a
-
--- they end, and have records
-abbrev pub SiblingsEnd : List EntryRecord → ℕ → Type 0
-SiblingsEnd es a = stop (λ i. (slice_index_or es i blank).next) (length es) a ≡ nil
-
-abbrev pub SiblingsLie : List EntryRecord → ℕ → Type 0
-SiblingsLie es a = (c : ℕ) → Mem c (siblings_from es a) → c < length es
+siblings_from = chain_from blank (λ r. r.next)
 
 -- a begins the children of an entry, or is the end where the entry is not known
 abbrev pub FirstOf : Records → UnitEntryId → ℕ → Type 0
@@ -31,16 +25,10 @@ FirstOf r i a = a ≡ cond (knows (view r) i) (slice_index_or r.entries.now i.en
 
 -- the attributes from the record a on
 abbrev pub records_from : List AttributeRecord → ℕ → List ℕ
-records_from ats a = chain (λ i. (slice_index_or ats i no_attribute).next) (length ats) a
+records_from = chain_from no_attribute (λ r. r.next)
 
 abbrev pub attributes_from : List AttributeRecord → ℕ → List Attribute
 attributes_from ats a = map (λ i. (slice_index_or ats i no_attribute).attribute) (records_from ats a)
-
-abbrev pub AttributesEnd : List AttributeRecord → ℕ → Type 0
-AttributesEnd ats a = stop (λ i. (slice_index_or ats i no_attribute).next) (length ats) a ≡ nil
-
-abbrev pub AttributesLie : List AttributeRecord → ℕ → Type 0
-AttributesLie ats a = (c : ℕ) → Mem c (records_from ats a) → c < length ats
 
 -- a begins the attributes of an entry, or is the end where the entry is not known
 abbrev pub FirstAttributeOf : Records → UnitEntryId → ℕ → Type 0

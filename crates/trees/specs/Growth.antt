@@ -1,5 +1,5 @@
 -- The calls of a session with all their arguments and their answers, and what they alone tell of the trees.
-use Rattle.std.specs.Prelude.{◌≡◌, ℕ, ◌+◌, Bool, true, false, cond, not, List, [], ◌∷◌, ◌++◌, length, Ok, Err, filter, Result, ◌==◌, nat_eq}
+use Rattle.std.specs.Prelude.{◌≡◌, ℕ, ◌+◌, Bool, true, false, cond, not, List, [], ◌∷◌, ◌++◌, length, Ok, Err, filter, Option, Result, ◌==◌, nat_eq}
 use Rattle.trees.specs.declared.records.UnitId.{UnitId}
 use Rattle.trees.specs.declared.records.UnitEntryId.{UnitEntryId}
 use Rattle.trees.specs.declared.records.Reservation.{Reservation}
@@ -15,7 +15,7 @@ use Rattle.trees.specs.Model.{Entry, Table, entry_of, put, unname}
 
 -- a call with its arguments, and its answer
 pub data Deed : Type 0 where
-  unit_added : Encoding → LineProgram → Result UnitId EditFault → Deed
+  unit_added : Encoding → Option LineProgram → Result UnitId EditFault → Deed
   reserved : UnitId → Result (UnitEntryId × Reservation) EditFault → Deed
   reserved_added : Reservation → UnitEntryId → ℕ → Result Unit Refusal → Deed
   entry_added : UnitEntryId → ℕ → Result UnitEntryId EditFault → Deed
@@ -80,7 +80,7 @@ abbrev pub grown : ℕ → Deed → (ℕ → Contents) → ℕ → Contents
 grown n (unit_added encoding line (Ok u)) f = at n (tagged 17) f
 grown n (unit_added encoding line (Err x)) f = f
 grown n (reserved u r) f = f
-grown n (reserved_added r p tag (Ok a)) f = at p.entry (gains r.entry) (at r.entry (tagged tag) f)
+grown n (reserved_added r p tag (Ok a)) f = at p.entry (gains r.id.entry) (at r.id.entry (tagged tag) f)
 grown n (reserved_added r p tag (Err x)) f = f
 grown n (entry_added p tag (Ok i)) f = at p.entry (gains i.entry) (at i.entry (tagged tag) f)
 grown n (entry_added p tag (Err x)) f = f

@@ -29,11 +29,11 @@ abbrev pub makes : Act → Option (ℕ × State)
 makes (unit_added r) = None
 makes (reserved u (Ok a)) = Some (a.0.entry, Waiting)
 makes (reserved u (Err f)) = None
-makes (reserved_added r p (Ok a)) = Some (r.entry, Placed)
+makes (reserved_added r p (Ok a)) = Some (r.id.entry, Placed)
 makes (reserved_added r p (Err f)) = None
 makes (entry_added p (Ok i)) = Some (i.entry, Placed)
 makes (entry_added p (Err f)) = None
-makes (gave_back r true) = Some (r.entry, GivenBack)
+makes (gave_back r true) = Some (r.id.entry, GivenBack)
 makes (gave_back r false) = None
 makes (child_deleted p c (Ok true)) = Some (c.entry, TakenOut)
 makes (child_deleted p c (Ok false)) = None

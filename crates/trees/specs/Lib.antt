@@ -1,5 +1,7 @@
 pub mod Lists
+pub mod Chains
 pub mod Model
+pub mod Sound
 pub mod View
 pub mod Stores
 pub mod Attributes
@@ -7,6 +9,7 @@ pub mod Cursors
 pub mod History
 pub mod Growth
 pub mod Walk
+pub mod Left
 pub mod Reach
 pub mod Counts
 pub mod Reorder

@@ -11,7 +11,6 @@ use Rattle.trees.specs.declared.records.AttributeValue.{AttributeValue}
 use Rattle.trees.specs.declared.records.AttributeValue.TheVariants.{Address, Block, Data1, Data2, Data4, Data8, Data16, Sdata, Udata, ImplicitConst, Exprloc, Flag, FlagPresent, UnitRef, DebugInfoRef, DebugInfoRefSup, LineProgramRef, LocationListRef, DebugMacinfoRef, DebugMacroRef, RangeListRef, DebugTypesRef, StringRef, DebugStrRefSup, LineStringRef, String, Encoding as EncodingOf, DecimalSign, Endianity, Accessibility, Visibility, Virtuality, Language, AddressClass, IdentifierCase, CallingConvention, Inline, Ordering, FileIndex}
 use Rattle.trees.specs.declared.records.Encoding.{Encoding}
 use Rattle.trees.specs.declared.records.LineProgram.{LineProgram}
-use Rattle.trees.specs.declared.records.LineProgram.TheVariants.{None as NoLine}
 use Rattle.trees.specs.declared.records.UnitRecord.{UnitRecord}
 use Rattle.trees.specs.declared.records.Note.{Note}
 use Rattle.trees.specs.declared.records.State.{State}
@@ -60,7 +59,7 @@ abbrev pub no_entry : Entry
 no_entry = record { unit = 0; state = GivenBack; tag = 0; sibling = false; note = no_note; attributes = []; children = [] }
 
 abbrev pub no_unit : UnitRecord
-no_unit = record { encoding = record { version = 0; format = Dwarf32; address_size = 0 }; line = NoLine; root = 0; written = false }
+no_unit = record { encoding = record { version = 0; format = Dwarf32; address_size = 0 }; line = None; root = 0; written = false }
 
 abbrev pub entry_of : Table → ℕ → Entry
 entry_of t e = slice_index_or t.entries e no_entry
@@ -95,7 +94,7 @@ abbrev pub knows_both : Table → UnitEntryId → UnitEntryId → Bool
 knows_both t i j = knows t i && (knows t j && i.unit == j.unit)
 
 abbrev pub entry_id : Reservation → UnitEntryId
-entry_id r = record { table = r.table; unit = r.unit; entry = r.entry }
+entry_id r = r.id
 
 -- a test that declines a call, with its refusal
 abbrev pub Check : Type 0
@@ -174,7 +173,7 @@ abbrev pub new_table : ℕ → ℕ → ℕ → ℕ → List ℕ → Table
 new_table number us es ats pool = record { number = number; closed = false; units = []; entries = []; pool = take 1048576 pool; units_left = min us 64; entries_left = min es 65535; attributes_left = min ats 65535 }
 
 -- one more unit, with its root
-abbrev pub open_unit : Table → Encoding → LineProgram → Table
+abbrev pub open_unit : Table → Encoding → Option LineProgram → Table
 open_unit t encoding line = record {
   number = t.number;
   closed = t.closed;
@@ -186,7 +185,7 @@ open_unit t encoding line = record {
   attributes_left = t.attributes_left;
 }
 
-abbrev pub add_unit : Table → Encoding → LineProgram → Table × Result UnitId EditFault
+abbrev pub add_unit : Table → Encoding → Option LineProgram → Table × Result UnitId EditFault
 add_unit t encoding line = unless (first_fault ((t.closed, SessionClosed) ∷ ((t.units_left == 0 || (t.entries_left == 0), TableFull) ∷ []))) as_is t
     (open_unit t encoding line, Ok (record { table = t.number; unit = length t.units }))
 
@@ -195,16 +194,16 @@ abbrev pub new_id : Table → ℕ → UnitEntryId
 new_id t u = record { table = t.number; unit = u; entry = length t.entries }
 
 abbrev pub new_reservation : Table → ℕ → Reservation
-new_reservation t u = record { table = t.number; unit = u; entry = length t.entries }
+new_reservation t u = record { id = new_id t u }
 
 abbrev pub reserve : Table → UnitId → Table × Result (UnitEntryId × Reservation) EditFault
 reserve t u = unless (first_fault (edit_checks t (knows_unit t u) u.unit (((t.entries_left == 0), TableFull) ∷ []))) as_is t
     (grant t u.unit, Ok (new_id t u.unit, new_reservation t u.unit))
 
 abbrev pub add_reserved : Table → Reservation → UnitEntryId → ℕ → Table × Result Unit Refusal
-add_reserved t r p tag = unless (first_fault (edit_checks t (knows_both t (entry_id r) p) r.unit ((not (is_waiting (entry_of t r.entry).state), NotWaiting) ∷ [])))
+add_reserved t r p tag = unless (first_fault (edit_checks t (knows_both t (entry_id r) p) r.id.unit ((not (is_waiting (entry_of t r.id.entry).state), NotWaiting) ∷ [])))
     (λ f. record { fault = f; reservation = r }) t
-    (place t r.entry p.entry tag, Ok tt)
+    (place t r.id.entry p.entry tag, Ok tt)
 
 abbrev pub add : Table → UnitEntryId → ℕ → Table × Result UnitEntryId EditFault
 add t p tag = unless (first_fault (edit_checks t (knows t p) p.unit (((t.entries_left == 0), TableFull) ∷ []))) as_is t
@@ -212,8 +211,8 @@ add t p tag = unless (first_fault (edit_checks t (knows t p) p.unit (((t.entries
 
 -- giving back is never declined: yes if the entry was waiting here
 abbrev pub give_back : Table → Reservation → Table × Bool
-give_back t r = cond (knows t (entry_id r) && is_waiting (entry_of t r.entry).state)
-    (with_entries t (change r.entry (left GivenBack) t.entries), true)
+give_back t r = cond (knows t (entry_id r) && is_waiting (entry_of t r.id.entry).state)
+    (with_entries t (change r.id.entry (left GivenBack) t.entries), true)
     (t, false)
 
 abbrev pub delete_child : Table → UnitEntryId → UnitEntryId → Table × Result Bool EditFault

@@ -4,6 +4,8 @@ use Rattle.std.specs.List.{flat_map}
 use Rattle.trees.specs.declared.records.EntryRecord.{EntryRecord}
 use Rattle.trees.specs.declared.records.Event.{Event}
 use Rattle.trees.specs.declared.records.Event.TheVariants.{Enter, Leave}
+use Rattle.trees.specs.declared.walk.Spot.{Spot}
+use Rattle.trees.specs.declared.walk.Spot.TheVariants.{Before, After}
 use Rattle.trees.specs.Lists.{nil, kids, Mem}
 use Rattle.trees.specs.declared.records.Records.{Records}
 use Rattle.trees.specs.declared.records.UnitId.{UnitId}
@@ -85,9 +87,18 @@ cost ch (suc f) e = suc (weigh (cost ch f) (ch e))
 abbrev pub steps : List EntryRecord → ℕ → ℕ → ℕ
 steps es n root = cost (kids (kin es n) (length es)) n root + 0
 
--- what a walk has yet to give, and that it comes to its end
-abbrev pub rest : List EntryRecord → ℕ → ℕ → ℕ → Bool → List Event
-rest es n root e u = run (λ i. (slice_index_or es i blank).first) (λ i. (slice_index_or es i blank).next) (λ i. (slice_index_or es i blank).parent) n root (steps es n root) e u
+-- where a walk stands, as the walk by links has it
+abbrev pub spot_entry : Spot → ℕ
+spot_entry (Before e) = e
+spot_entry (After e) = e
 
-abbrev pub Ending : List EntryRecord → ℕ → ℕ → ℕ → Bool → Type 0
-Ending es n root e u = ends (λ i. (slice_index_or es i blank).first) (λ i. (slice_index_or es i blank).next) (λ i. (slice_index_or es i blank).parent) n root (steps es n root) e u ≡ true
+abbrev pub is_after : Spot → Bool
+is_after (Before e) = false
+is_after (After e) = true
+
+-- what a walk has yet to give, and that it comes to its end
+abbrev pub rest : List EntryRecord → ℕ → ℕ → Spot → List Event
+rest es n root s = run (λ i. (slice_index_or es i blank).first) (λ i. (slice_index_or es i blank).next) (λ i. (slice_index_or es i blank).parent) n root (steps es n root) (spot_entry s) (is_after s)
+
+abbrev pub Ending : List EntryRecord → ℕ → ℕ → Spot → Type 0
+Ending es n root s = ends (λ i. (slice_index_or es i blank).first) (λ i. (slice_index_or es i blank).next) (λ i. (slice_index_or es i blank).parent) n root (steps es n root) (spot_entry s) (is_after s) ≡ true

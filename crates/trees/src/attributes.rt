@@ -1,8 +1,8 @@
-ghost use Rattle.std.specs.Prelude.{◌≡◌, ℕ, ◌+◌, ◌-◌, ◌<◌, ◌≤◌, not, [], ◌∷◌, ◌++◌, length, ◌==◌};
-ghost use Rattle.trees.specs.Attributes.{lists, records_of, Loose, Sought, FoundAt, NotFound};
-ghost use Rattle.trees.specs.Lists.{Before, last_or, nil};
+ghost use Rattle.std.specs.Prelude.{◌≡◌, ℕ, ◌+◌, ◌-◌, ◌<◌, not, [], ◌∷◌, ◌++◌, ◌==◌};
+ghost use Rattle.trees.specs.Attributes.{lists, records_of, Loose, Sought, FoundAt};
+ghost use Rattle.trees.specs.Lists.{last_or, nil};
 ghost use Rattle.trees.specs.Model.{span_of, amended, with_spare, put, unname};
-ghost use Rattle.trees.specs.View.{view, Holds};
+ghost use Rattle.trees.specs.View.{view};
 
 use crate::records::{Attribute, AttributeRecord, AttributeValue, NIL, Records, Span};
 
@@ -12,15 +12,15 @@ impl AttributeValue {
         ensures { result ≡ span_of self }
     {
         match self {
-            AttributeValue::Block(span) => Some(span),
-            AttributeValue::Exprloc(span) => Some(span),
-            AttributeValue::String(span) => Some(span),
+            AttributeValue::Block(span)
+            | AttributeValue::Exprloc(span)
+            | AttributeValue::String(span) => Some(span),
             _ => None,
         }
     }
 }
 
-// Where a name stands among an entry's attributes: at a record, after another; or nowhere, after the last.
+// Where a name stands among an entry's attributes: at a record, after another, or first, after NIL.
 #[derive(Clone, Copy)]
 pub(crate) struct Place {
     pub(crate) before: u16,
@@ -28,20 +28,20 @@ pub(crate) struct Place {
 }
 
 impl<'a> Records<'a> {
-    // Seeks a name among the attributes of an entry.
-    pub(crate) fn find(&self, e: usize, name: u16) -> Place
-        requires sound { Holds self.now }
+    // Seeks a name among the attributes of an entry: where it stands, or the last of them, after which
+    // it would go. The loop keeps the link before, which a cursor over the chain does not have.
+    pub(crate) fn find(&self, e: usize, name: u16) -> Result<Place, u16>
         requires used { e < self.now.entry_count }
-        ensures { Sought self.now e name result.before result.at }
+        ensures { Sought self.now e name result }
     {
         let mut before = NIL;
         let mut at = self.entries[e].attribute;
         loop {
             if at == NIL {
-                return Place { before, at };
+                return Err(before);
             }
             if self.attributes[at as usize].attribute.name == name {
-                return Place { before, at };
+                return Ok(Place { before, at });
             }
             before = at;
             at = self.attributes[at as usize].next;
@@ -50,7 +50,6 @@ impl<'a> Records<'a> {
 
     // Whether a record is left for an attribute.
     pub(crate) fn has_spare(&self) -> bool
-        requires { Holds self.now }
         ensures { result ≡ not ((view self.now).attributes_left == 0) }
     {
         self.free != NIL || self.attribute_count < self.attributes.len()
@@ -58,9 +57,7 @@ impl<'a> Records<'a> {
 
     // Takes a record that was dropped, or one never used.
     fn take(&mut self) -> u16
-        requires sound { Holds self.old }
         requires room { 0 < (view self.old).attributes_left }
-        ensures sound { Holds self.new }
         ensures view { view self.new ≡ with_spare (view self.old) ((view self.old).attributes_left - 1) }
         ensures loose { Loose self.new result }
         ensures small { result < self.new.attribute_count }
@@ -79,10 +76,8 @@ impl<'a> Records<'a> {
 
     // A record that stands in no list is free again.
     fn drop_record(&mut self, a: usize)
-        requires sound { Holds self.old }
         requires small { a < self.old.attribute_count }
         requires loose { Loose self.old a }
-        ensures sound { Holds self.new }
         ensures view { view self.new ≡ with_spare (view self.old) ((view self.old).attributes_left + 1) }
     {
         let old = self.attributes[a];
@@ -96,12 +91,10 @@ impl<'a> Records<'a> {
 
     // A record that stands in no list becomes the last of an entry's.
     fn link(&mut self, e: usize, before: u16, a: usize, attribute: Attribute)
-        requires sound { Holds self.old }
         requires used { e < self.old.entry_count }
         requires small { a < self.old.attribute_count }
         requires loose { Loose self.old a }
         requires last { before ≡ last_or nil (records_of self.old e) }
-        ensures sound { Holds self.new }
         ensures view { view self.new ≡ amended (view self.old) e (λ xs. xs ++ attribute ∷ []) (view self.old).attributes_left }
     {
         self.attributes[a] = AttributeRecord {
@@ -117,44 +110,35 @@ impl<'a> Records<'a> {
     }
 
     // A record leaves an entry's list.
-    fn unlink(&mut self, e: usize, before: u16, a: usize)
-        requires sound { Holds self.old }
+    fn unlink(&mut self, e: usize, place: Place)
         requires used { e < self.old.entry_count }
-        requires small { a < self.old.attribute_count }
-        requires found { (name : ℕ) × FoundAt self.old e name before a }
-        ensures sound { Holds self.new }
-        ensures view { (name : ℕ) → FoundAt self.old e name before a → view self.new ≡ amended (view self.old) e (unname name) (view self.old).attributes_left }
-        ensures loose { Loose self.new a }
-        ensures count { self.new.attribute_count ≡ self.old.attribute_count }
+        requires found { (name : ℕ) × FoundAt self.old e name place }
+        ensures view { (name : ℕ) → FoundAt self.old e name place → view self.new ≡ amended (view self.old) e (unname name) (view self.old).attributes_left }
+        ensures loose { Loose self.new place.at }
+        ensures small { place.at < self.new.attribute_count }
     {
-        let next = self.attributes[a].next;
-        if before == NIL {
+        let next = self.attributes[place.at as usize].next;
+        if place.before == NIL {
             self.entries[e].attribute = next;
         } else {
-            self.attributes[before as usize].next = next;
+            self.attributes[place.before as usize].next = next;
         }
     }
 
     // The attribute of a name is replaced where it stands.
-    pub(crate) fn replace(&mut self, e: usize, before: u16, a: usize, attribute: Attribute)
-        requires sound { Holds self.old }
+    pub(crate) fn replace(&mut self, e: usize, place: Place, attribute: Attribute)
         requires used { e < self.old.entry_count }
-        requires small { a < self.old.attribute_count }
-        requires found { FoundAt self.old e attribute.name before a }
-        ensures sound { Holds self.new }
+        requires found { FoundAt self.old e attribute.name place }
         ensures view { view self.new ≡ amended (view self.old) e (put attribute) (view self.old).attributes_left }
     {
-        let old = self.attributes[a];
-        self.attributes[a] = AttributeRecord { attribute, ..old };
+        self.attributes[place.at as usize].attribute = attribute;
     }
 
     // An attribute becomes the last of an entry.
     pub(crate) fn append(&mut self, e: usize, before: u16, attribute: Attribute)
-        requires sound { Holds self.old }
         requires used { e < self.old.entry_count }
         requires room { 0 < (view self.old).attributes_left }
         requires last { before ≡ last_or nil (records_of self.old e) }
-        ensures sound { Holds self.new }
         ensures view { view self.new ≡ amended (view self.old) e (λ xs. xs ++ attribute ∷ []) ((view self.old).attributes_left - 1) }
     {
         let a = self.take();
@@ -162,15 +146,12 @@ impl<'a> Records<'a> {
     }
 
     // The attribute of a name is dropped, and its record is free again.
-    pub(crate) fn remove(&mut self, e: usize, before: u16, a: usize)
-        requires sound { Holds self.old }
+    pub(crate) fn remove(&mut self, e: usize, place: Place)
         requires used { e < self.old.entry_count }
-        requires small { a < self.old.attribute_count }
-        requires found { (name : ℕ) × FoundAt self.old e name before a }
-        ensures sound { Holds self.new }
-        ensures view { (name : ℕ) → FoundAt self.old e name before a → view self.new ≡ amended (view self.old) e (unname name) ((view self.old).attributes_left + 1) }
+        requires found { (name : ℕ) × FoundAt self.old e name place }
+        ensures view { (name : ℕ) → FoundAt self.old e name place → view self.new ≡ amended (view self.old) e (unname name) ((view self.old).attributes_left + 1) }
     {
-        self.unlink(e, before, a);
-        self.drop_record(a);
+        self.unlink(e, place);
+        self.drop_record(place.at as usize);
     }
 }

@@ -10,12 +10,17 @@ use crate::records::{
 };
 use crate::table::UnitTable;
 
-// The calls of a session. Each says its answer and the table that it leaves, that a declined one
-// leaves every record as it was, and that what the answers so far tell of the entries and their
-// trees stays true.
+// The calls of a session. Each forwards to the one that does the work (`try_add` and so on), whose
+// proof is of the outcome alone: the laws are one answer for each call, and not one for each way out.
+// Each says its answer and the table that it leaves, that a declined one leaves every record as it was,
+// and that what the answers so far tell of the entries and their trees stays true.
 impl<'a> UnitTable<'a> {
     // Adds a unit, with its root.
-    pub fn add(&mut self, encoding: Encoding, line: LineProgram) -> Result<UnitId, EditFault>
+    pub fn add(
+        &mut self,
+        encoding: Encoding,
+        line: Option<LineProgram>,
+    ) -> Result<UnitId, EditFault>
         ensures outcome { (view self.new.records, result) ≡ add_unit (view self.old.records) encoding line }
         ensures declined { is_ok result ≡ false → self.new ≡ self.old }
         ensures law { (h : History) → Stands h (view self.old.records) → Stands (unit_added result ∷ h) (view self.new.records) }
@@ -156,14 +161,12 @@ impl<'a> UnitTable<'a> {
         self.records.unit_count
     }
 
-    // An entry's tag, 0 while it waits, and its sibling flag.
+    // An entry's tag, and its sibling flag. While it waits its tag is 0, which is none in DWARF.
     pub fn entry(&self, id: UnitEntryId) -> Option<(u16, bool)>
         ensures { result ≡ tag_if (view self.now.records) id }
     {
-        match self.entry_record(id) {
-            None => None,
-            Some(entry) => Some((entry.tag, entry.sibling)),
-        }
+        let entry = self.entry_record(id)?;
+        Some((entry.tag, entry.sibling))
     }
 
     // Notes where a write put an entry's code down, and which code: yes if the table knows the entry.
@@ -184,9 +187,6 @@ impl<'a> UnitTable<'a> {
     pub fn note(&self, id: UnitEntryId) -> Option<Note>
         ensures { result ≡ note_of (view self.now.records) id }
     {
-        match self.entry_record(id) {
-            None => None,
-            Some(entry) => Some(entry.note),
-        }
+        Some(self.entry_record(id)?.note)
     }
 }

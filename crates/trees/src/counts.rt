@@ -3,9 +3,10 @@ ghost use Rattle.trees.specs.Attributes.{records_of};
 ghost use Rattle.trees.specs.Counts.{tallied, Countable, counts_in, counts_of, left_of, names_file, any_file, file_in, uses_files};
 ghost use Rattle.trees.specs.Lists.{nil};
 ghost use Rattle.trees.specs.Model.{entry_of};
-ghost use Rattle.trees.specs.View.{view, Holds};
+ghost use Rattle.trees.specs.View.{view};
 
-use crate::records::{AttributeValue, Counts, Left, NIL, Records, State, UnitId};
+use crate::chain::Chain;
+use crate::records::{AttributeValue, Counts, Left, Records, State, UnitId};
 use crate::table::UnitTable;
 
 impl Counts {
@@ -41,72 +42,47 @@ impl AttributeValue {
     fn names_file(self) -> bool
         ensures { result ≡ names_file self }
     {
-        match self {
-            AttributeValue::FileIndex(file) => file.is_some(),
-            _ => false,
-        }
+        matches!(self, AttributeValue::FileIndex(Some(_)))
     }
 }
 
 impl<'a> Records<'a> {
     // How many entries are in each state.
     fn count_states(&self) -> Counts
-        requires { Holds self.now }
         ensures { result ≡ counts_in (view self.now).entries }
     {
-        let mut counts = Counts {
-            waiting: 0,
-            placed: 0,
-            taken_out: 0,
-            given_back: 0,
-        };
-        for e in 0..self.entry_count {
-            counts = counts.tally(self.entries[e].state);
+        let mut counts = Counts::default();
+        for entry in &self.entries[..self.entry_count] {
+            counts = counts.tally(entry.state);
         }
         counts
     }
 
     // How many records of dropped attributes wait for another.
     fn count_free(&self) -> usize
-        requires { Holds self.now }
         ensures { result ≡ length (records_of self.now nil) }
     {
-        let mut count = 0;
-        let mut at = self.free;
-        while at != NIL {
-            count += 1;
-            at = self.attributes[at as usize].next;
-        }
-        count
+        Chain::new(&*self.attributes, self.free).count()
     }
 
     // Whether an attribute of an entry names a file.
     fn entry_names_file(&self, e: usize) -> bool
-        requires sound { Holds self.now }
         requires used { e < self.now.entry_count }
         ensures { result ≡ any_file (entry_of (view self.now) e).attributes }
     {
-        let mut at = self.entries[e].attribute;
-        while at != NIL {
-            let record = self.attributes[at as usize];
-            if record.attribute.value.names_file() {
-                return true;
-            }
-            at = record.next;
-        }
-        false
+        Chain::new(&*self.attributes, self.entries[e].attribute).any(|(_, record)| record
+            .attribute
+            .value
+            .names_file())
     }
 
     // Whether an entry of a unit, whatever its state, names a file.
     fn unit_names_file(&self, unit: u32) -> bool
-        requires { Holds self.now }
         ensures { result ≡ file_in unit (view self.now).entries }
     {
-        for e in 0..self.entry_count {
-            if self.entries[e].unit as u32 == unit {
-                if self.entry_names_file(e) {
-                    return true;
-                }
+        for (e, entry) in self.entries[..self.entry_count].iter().enumerate() {
+            if entry.unit as u32 == unit && self.entry_names_file(e) {
+                return true;
             }
         }
         false

@@ -8,14 +8,6 @@ impl EditFault {
     pub fn number(self) -> u8
         ensures { result ≡ number_of self }
     {
-        match self {
-            EditFault::SiblingName => 9,
-            EditFault::SpanOutOfBounds => 10,
-            EditFault::UnknownId => 11,
-            EditFault::NotWaiting => 12,
-            EditFault::UnitWritten => 13,
-            EditFault::SessionClosed => 14,
-            EditFault::TableFull => 15,
-        }
+        self as u8
     }
 }

@@ -2,6 +2,7 @@
 
 mod attributes;
 mod calls;
+mod chain;
 mod counts;
 pub mod cursors;
 mod fault;

@@ -1,14 +1,17 @@
+ghost use Rattle.std.specs.Prelude.{length};
+ghost use Rattle.trees.specs.Sound.{Sound};
+
 use numbers::{Address, Format};
 
 // A unit of a table: the table's number, which its caller chose, and the unit's place.
-#[derive(Clone, Copy)]
+#[derive(Clone, Copy, Debug, PartialEq, Eq, Hash)]
 pub struct UnitId {
     pub table: u32,
     pub unit: u32,
 }
 
 // An entry of a unit of a table.
-#[derive(Clone, Copy)]
+#[derive(Clone, Copy, Debug, PartialEq, Eq, Hash)]
 pub struct UnitEntryId {
     pub table: u32,
     pub unit: u32,
@@ -17,27 +20,25 @@ pub struct UnitEntryId {
 
 // The right and the duty to add a reserved entry: it can be neither copied nor dropped.
 pub struct Reservation {
-    pub table: u32,
-    pub unit: u32,
-    pub entry: u32,
+    pub id: UnitEntryId,
 }
 
 // A part of the byte pool.
-#[derive(Clone, Copy)]
+#[derive(Clone, Copy, Debug, PartialEq, Eq, Hash)]
 pub struct Span {
     pub start: usize,
     pub len: usize,
 }
 
 // What a reference into .debug_info names.
-#[derive(Clone, Copy)]
+#[derive(Clone, Copy, Debug, PartialEq, Eq, Hash)]
 pub enum DebugInfoRef {
     Symbol(usize),
     Entry(UnitEntryId),
 }
 
 // The value of an attribute.
-#[derive(Clone, Copy)]
+#[derive(Clone, Copy, Debug, PartialEq, Eq, Hash)]
 pub enum AttributeValue {
     Address(Address),
     Block(Span),
@@ -81,29 +82,29 @@ pub enum AttributeValue {
 }
 
 // A name and its value.
-#[derive(Clone, Copy)]
+#[derive(Clone, Copy, Debug, PartialEq, Eq, Hash)]
 pub struct Attribute {
     pub name: u16,
     pub value: AttributeValue,
 }
 
 // What fixes the layout of a unit's numbers.
-#[derive(Clone, Copy)]
+#[derive(Clone, Copy, Debug, PartialEq, Eq, Hash)]
 pub struct Encoding {
     pub version: u16,
     pub format: Format,
     pub address_size: u8,
 }
 
-// A unit's line program: none, or one that the caller writes at an offset.
-#[derive(Clone, Copy)]
-pub enum LineProgram {
-    None,
-    At { offset: u64, empty: bool },
+// A unit's line program, which the caller writes at an offset.
+#[derive(Clone, Copy, Debug, PartialEq, Eq, Hash)]
+pub struct LineProgram {
+    pub offset: u64,
+    pub empty: bool,
 }
 
 // What became of an entry. A root is of none of the four states of a reserved one.
-#[derive(Clone, Copy)]
+#[derive(Clone, Copy, Debug, PartialEq, Eq, Hash)]
 pub enum State {
     Root,
     Waiting,
@@ -112,16 +113,16 @@ pub enum State {
     GivenBack,
 }
 
-// Why an edit was declined.
-#[derive(Clone, Copy)]
+// Why an edit was declined, with the number that a program gives it.
+#[derive(Clone, Copy, Debug, PartialEq, Eq, Hash)]
 pub enum EditFault {
-    SiblingName,
-    SpanOutOfBounds,
-    UnknownId,
-    NotWaiting,
-    UnitWritten,
-    SessionClosed,
-    TableFull,
+    SiblingName = 9,
+    SpanOutOfBounds = 10,
+    UnknownId = 11,
+    NotWaiting = 12,
+    UnitWritten = 13,
+    SessionClosed = 14,
+    TableFull = 15,
 }
 
 // A declined `add_reserved`: why, and the reservation, which is still to be spent.
@@ -131,7 +132,7 @@ pub struct Refusal {
 }
 
 // How many entries are in each state; a root is in none.
-#[derive(Clone, Copy)]
+#[derive(Clone, Copy, Debug, Default, PartialEq, Eq, Hash)]
 pub struct Counts {
     pub waiting: usize,
     pub placed: usize,
@@ -140,7 +141,7 @@ pub struct Counts {
 }
 
 // How many records of each kind are left.
-#[derive(Clone, Copy)]
+#[derive(Clone, Copy, Debug, PartialEq, Eq, Hash)]
 pub struct Left {
     pub units: usize,
     pub entries: usize,
@@ -148,25 +149,25 @@ pub struct Left {
 }
 
 // A step of the walk through a tree: into an entry, or out of one that has children.
-#[derive(Clone, Copy)]
+#[derive(Clone, Copy, Debug, PartialEq, Eq, Hash)]
 pub enum Event {
     Enter(u16),
     Leave(u16),
 }
 
-// No record: the end of a list.
+// No record: the end of a list. An `Option` of a link is twice as long, and the records are the caller's memory.
 pub const NIL: u16 = 0xffff;
 
-#[derive(Clone, Copy)]
+#[derive(Clone, Copy, Debug, PartialEq, Eq, Hash)]
 pub struct UnitRecord {
     pub encoding: Encoding,
-    pub line: LineProgram,
+    pub line: Option<LineProgram>,
     pub root: u16,
     pub written: bool,
 }
 
-// Where a write put an entry's code down, and which code: 0 before its first.
-#[derive(Clone, Copy)]
+// Where a write put an entry's code down, and which code: 0, which is no code in DWARF, before its first.
+#[derive(Clone, Copy, Debug, PartialEq, Eq, Hash)]
 pub struct Note {
     pub offset: u64,
     pub code: u32,
@@ -174,7 +175,7 @@ pub struct Note {
 
 // An entry's record: `first` and `last` begin and end the list of its children, which goes on by
 // their `next`; `attribute` begins the list of its attributes. Only a placed entry has a parent.
-#[derive(Clone, Copy)]
+#[derive(Clone, Copy, Debug, PartialEq, Eq, Hash)]
 pub struct EntryRecord {
     pub unit: u16,
     pub state: State,
@@ -189,24 +190,26 @@ pub struct EntryRecord {
 }
 
 // An attribute's record: the entry that has it, or NIL where the record is free.
-#[derive(Clone, Copy)]
+#[derive(Clone, Copy, Debug, PartialEq, Eq, Hash)]
 pub struct AttributeRecord {
     pub attribute: Attribute,
     pub owner: u16,
     pub next: u16,
 }
 
-// The memory that a table works in, and how much of it has been in use.
+// The memory that a table works in, and how much of it has been in use: its lists are sound
+// wherever a step begins or ends.
 #[derive(Drop)]
 pub struct Records<'a> {
-    pub units: &'a mut [UnitRecord],
-    pub entries: &'a mut [EntryRecord],
-    pub attributes: &'a mut [AttributeRecord],
-    pub pool: &'a [u8],
-    pub number: u32,
-    pub closed: bool,
-    pub unit_count: usize,
-    pub entry_count: usize,
-    pub attribute_count: usize,
-    pub free: u16,
+    pub(crate) units: &'a mut [UnitRecord],
+    pub(crate) entries: &'a mut [EntryRecord],
+    pub(crate) attributes: &'a mut [AttributeRecord],
+    pub(crate) pool: &'a [u8],
+    pub(crate) number: u32,
+    pub(crate) closed: bool,
+    pub(crate) unit_count: usize,
+    pub(crate) entry_count: usize,
+    pub(crate) attribute_count: usize,
+    pub(crate) free: u16,
+    ghost sound: { Sound units.now unit_count entries.now entry_count attributes.now attribute_count free (length pool.now) },
 }

@@ -1,11 +1,11 @@
 ghost use Rattle.std.specs.Prelude.{◌≡◌, ◌<◌, ◌≤◌, false, ◌≢◌, ◌∷◌, length, if◌then◌else◌};
 ghost use Rattle.trees.specs.History.{History, Stands};
 ghost use Rattle.trees.specs.Growth.{Deeds, Grows, Deed.bases_moved};
-ghost use Rattle.trees.specs.Lists.{nil, Before};
+ghost use Rattle.trees.specs.Lists.{Before};
 ghost use Rattle.trees.specs.Model.{entry_of};
 ghost use Rattle.trees.specs.Moves.{moved_last, settled, detached, attached};
 ghost use Rattle.trees.specs.Reorder.{is_base, bases_first, recast, reordered_if};
-ghost use Rattle.trees.specs.View.{view, Holds, kin};
+ghost use Rattle.trees.specs.View.{view, kin};
 ghost use Rattle.trees.specs.Reach.{root_in};
 
 use crate::records::{EntryRecord, NIL, Records, UnitId};
@@ -33,11 +33,10 @@ impl<'a> UnitTable<'a> {
 }
 
 impl<'a> Records<'a> {
-    // The base types among the children of p move to the front.
+    // The base types among the children of p move to the front. The list changes under the loop, so no cursor goes
+    // over it.
     fn bases_first(&mut self, p: usize)
-        requires sound { Holds self.old }
         requires parent { p < self.old.entry_count }
-        ensures sound { Holds self.new }
         ensures view { view self.new ≡ recast (view self.old) p (bases_first (view self.old) (entry_of (view self.old) p).children) }
     {
         let end = self.entries[p].last;
@@ -59,10 +58,8 @@ impl<'a> Records<'a> {
     // A child of p keeps its place if it is a base type, and else becomes the last; `before` stands
     // before it. The answer is the last base type that keeps its place.
     fn settle(&mut self, p: usize, c: u16, before: u16) -> u16
-        requires sound { Holds self.old }
         requires parent { p < self.old.entry_count }
         requires before { Before (kin self.old.entries.now self.old.entry_count) (length self.old.entries.now) p c before }
-        ensures sound { Holds self.new }
         ensures view { view self.new ≡ settled (view self.old) p c }
         ensures kept { result ≡ (if is_base (view self.old) c then c else before) }
     {
@@ -75,19 +72,26 @@ impl<'a> Records<'a> {
 
     // A child of p becomes its last; `before` stands before it.
     fn move_last(&mut self, p: usize, c: usize, before: u16)
-        requires sound { Holds self.old }
         requires parent { p < self.old.entry_count }
         requires before { Before (kin self.old.entries.now self.old.entry_count) (length self.old.entries.now) p c before }
-        ensures sound { Holds self.new }
         ensures view { view self.new ≡ recast (view self.old) p (moved_last c (entry_of (view self.old) p).children) }
     {
         let last = self.entries[p].last;
         if c == last as usize {
             return;
         }
-        detach(self.entries, p, c, before);
-        attach(self.entries, p, c, last as usize);
+        put_last(self.entries, p, c, before, last as usize);
     }
+}
+
+// The list of p, which ends with `last`, has c, its first or the one after `before`, for its last.
+fn put_last(entries: &mut [EntryRecord], p: usize, c: usize, before: u16, last: usize)
+    requires small { (c < length entries.old) × ((p < length entries.old) × ((last < length entries.old) × (length entries.old ≤ 65535))) }
+    requires before { before ≢ 65535 → before < length entries.old }
+    ensures { entries.new ≡ attached (detached entries.old p c before) p c last }
+{
+    detach(entries, p, c, before);
+    attach(entries, p, c, last);
 }
 
 // The list of p goes past c, which is its first or follows `before`.

@@ -1,38 +1,33 @@
-ghost use Rattle.std.specs.Prelude.{◌≡◌, ℕ, ◌+◌, ◌<◌, ◌≤◌, true, false, length, if◌then◌else◌, MatchOption, nat_eq, slice_index_or, slice_set};
-ghost use Rattle.trees.specs.Lists.{nil, has, kids, Before};
+ghost use Rattle.std.specs.Prelude.{◌≡◌, ◌+◌, ◌<◌, ◌≤◌, false, length, if◌then◌else◌, MatchOption, nat_eq, slice_index_or, slice_set};
+ghost use Rattle.trees.specs.Lists.{has, kids, Before};
 ghost use Rattle.trees.specs.Model.{is_waiting, is_given_back, with_entries, change, left, flagged, place, take_out, grant, open_unit, mark_written, as_written, noted, no_unit};
 ghost use Rattle.trees.specs.Stores.{modify, with_sibling, with_state, jotted, fresh_record, linked_first, linked_after, unlinked_first, unlinked_after};
-ghost use Rattle.trees.specs.View.{view, Holds, blank, kin};
+ghost use Rattle.trees.specs.View.{view, blank, kin};
 ghost use Rattle.trees.specs.declared.records.State.TheVariants.{Waiting, GivenBack};
 
 use crate::records::{Encoding, EntryRecord, LineProgram, NIL, Note, Records, State, UnitRecord};
 
+// Tests with contracts of their own: what is wrong in one is told here, and not in each caller's proof.
 impl State {
     pub fn is_waiting(self) -> bool
         ensures { result ≡ is_waiting self }
     {
-        match self {
-            State::Waiting => true,
-            _ => false,
-        }
+        matches!(self, State::Waiting)
     }
 
     pub fn is_given_back(self) -> bool
         ensures { result ≡ is_given_back self }
     {
-        match self {
-            State::GivenBack => true,
-            _ => false,
-        }
+        matches!(self, State::GivenBack)
     }
 }
 
+// An entry is named by its index, which each step asks to be in use: a type for such an index would
+// have to name the records that it was found in, and no longer fit them after the next step.
 impl<'a> Records<'a> {
     // Sets or clears the sibling flag of an entry.
     pub(crate) fn flag(&mut self, e: usize, sibling: bool)
-        requires sound { Holds self.old }
         requires used { e < self.old.entry_count }
-        ensures sound { Holds self.new }
         ensures view { view self.new ≡ with_entries (view self.old) (change e (flagged sibling) (view self.old).entries) }
     {
         store_flag(self.entries, e, sibling);
@@ -40,9 +35,7 @@ impl<'a> Records<'a> {
 
     // Notes where a write put an entry's code down.
     pub(crate) fn jot(&mut self, e: usize, note: Note)
-        requires sound { Holds self.old }
         requires used { e < self.old.entry_count }
-        ensures sound { Holds self.new }
         ensures view { view self.new ≡ with_entries (view self.old) (change e (noted note) (view self.old).entries) }
     {
         store_note(self.entries, e, note);
@@ -50,10 +43,8 @@ impl<'a> Records<'a> {
 
     // A waiting entry is given back.
     pub(crate) fn retire(&mut self, e: usize)
-        requires sound { Holds self.old }
         requires used { e < self.old.entry_count }
         requires waits { (slice_index_or self.old.entries.now e blank).state ≡ Waiting }
-        ensures sound { Holds self.new }
         ensures view { view self.new ≡ with_entries (view self.old) (change e (left GivenBack) (view self.old).entries) }
     {
         store_state(self.entries, e, State::GivenBack);
@@ -61,10 +52,8 @@ impl<'a> Records<'a> {
 
     // A new entry of a unit, which waits.
     pub(crate) fn grant(&mut self, unit: u16)
-        requires sound { Holds self.old }
         requires unit { unit < self.old.unit_count }
         requires room { self.old.entry_count < length self.old.entries.now }
-        ensures sound { Holds self.new }
         ensures view { view self.new ≡ grant (view self.old) unit }
         ensures count { self.new.entry_count ≡ self.old.entry_count + 1 }
     {
@@ -74,11 +63,9 @@ impl<'a> Records<'a> {
     }
 
     // A new unit, with its root.
-    pub(crate) fn open_unit(&mut self, encoding: Encoding, line: LineProgram)
-        requires sound { Holds self.old }
+    pub(crate) fn open_unit(&mut self, encoding: Encoding, line: Option<LineProgram>)
         requires units { self.old.unit_count < length self.old.units.now }
         requires room { self.old.entry_count < length self.old.entries.now }
-        ensures sound { Holds self.new }
         ensures view { view self.new ≡ open_unit (view self.old) encoding line }
     {
         let m = self.unit_count;
@@ -96,9 +83,7 @@ impl<'a> Records<'a> {
 
     // A unit is written.
     pub(crate) fn mark(&mut self, u: usize)
-        requires sound { Holds self.old }
         requires used { u < self.old.unit_count }
-        ensures sound { Holds self.new }
         ensures view { view self.new ≡ mark_written (view self.old) u }
     {
         store_written(self.units, u);
@@ -106,12 +91,10 @@ impl<'a> Records<'a> {
 
     // A waiting entry becomes the last child of an entry of its unit.
     pub(crate) fn place(&mut self, c: usize, p: usize, tag: u16)
-        requires sound { Holds self.old }
         requires child { c < self.old.entry_count }
         requires parent { p < self.old.entry_count }
         requires waits { (slice_index_or self.old.entries.now c blank).state ≡ Waiting }
         requires same { (slice_index_or self.old.entries.now c blank).unit ≡ (slice_index_or self.old.entries.now p blank).unit }
-        ensures sound { Holds self.new }
         ensures view { view self.new ≡ place (view self.old) c p tag }
     {
         let last = self.entries[p].last;
@@ -124,10 +107,8 @@ impl<'a> Records<'a> {
 
     // A child of p is taken out; `before` stands before it.
     pub(crate) fn take_out(&mut self, p: usize, c: usize, before: u16)
-        requires sound { Holds self.old }
         requires parent { p < self.old.entry_count }
         requires before { Before (kin self.old.entries.now self.old.entry_count) (length self.old.entries.now) p c before }
-        ensures sound { Holds self.new }
         ensures view { view self.new ≡ take_out (view self.old) p c }
     {
         if before == NIL {
@@ -137,9 +118,9 @@ impl<'a> Records<'a> {
         }
     }
 
-    // The child that stands before c among those of p, NIL before the first; none if c is no child of p.
+    // The child that stands before c among those of p, NIL before the first, as the links have it; none if c is no
+    // child of p. The loop keeps the link before, which a cursor over the chain does not have.
     pub(crate) fn before(&self, p: usize, c: u16) -> Option<u16>
-        requires sound { Holds self.now }
         requires parent { p < self.now.entry_count }
         ensures { MatchOption result (has c (kids (kin self.now.entries.now self.now.entry_count) (length self.now.entries.now) p) ≡ false)
             (λ l. Before (kin self.now.entries.now self.now.entry_count) (length self.now.entries.now) p c l) }
@@ -159,7 +140,8 @@ impl<'a> Records<'a> {
     }
 }
 
-// The stores, one or a few each, said record by record.
+// The stores, one or a few each, said record by record: thin functions that prove themselves, where
+// one that takes a closure makes each caller prove again what the closure stored.
 
 fn store_flag(entries: &mut [EntryRecord], e: usize, sibling: bool)
     requires { e < length entries.old }
@@ -207,7 +189,7 @@ fn fresh(unit: u16, state: State, tag: u16) -> EntryRecord
     }
 }
 
-pub(crate) fn pick(x: u16, a: u16, b: u16) -> u16
+pub(crate) fn pick<T: Copy>(x: u16, a: T, b: T) -> T
     ensures { result ≡ (if nat_eq x 65535 then a else b) }
 {
     if x == NIL { a } else { b }

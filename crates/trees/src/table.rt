@@ -1,10 +1,9 @@
-ghost use Rattle.std.specs.Prelude.{◌≡◌, ℕ, ◌<◌, ◌≤◌, min, true, false, [], length, is_ok, Ok};
-ghost use Rattle.trees.specs.Lists.{nil, Ends, Owned};
-ghost use Rattle.trees.specs.Model.{Table, entry_id, new_table, knows, knows_unit, knows_both, root_of, unit_if, passes, first_fault, edit_checks, add_unit, reserve, add_reserved, add, give_back, delete_child, set_sibling, fits, set_attribute, delete_attribute};
+ghost use Rattle.std.specs.Prelude.{◌≡◌, ◌<◌, ◌≤◌, true, false, [], length, is_ok, Ok};
+ghost use Rattle.trees.specs.Model.{entry_id, new_table, knows, knows_unit, knows_both, root_of, unit_if, passes, first_fault, edit_checks, add_unit, reserve, add_reserved, add, give_back, delete_child, set_sibling, fits, set_attribute, delete_attribute};
 ghost use Rattle.trees.specs.History.{Stands};
 ghost use Rattle.trees.specs.Growth.{Grows};
 ghost use Rattle.trees.specs.Cursors.{RecordOf, FirstOf, FirstAttributeOf};
-ghost use Rattle.trees.specs.View.{view, kin, holdings, Sized, Lasts, Parented, Listed, Akin, Housed, Rooted};
+ghost use Rattle.trees.specs.View.{view};
 
 use crate::records::{
     Attribute, AttributeRecord, AttributeValue, EditFault, Encoding, EntryRecord, LineProgram, NIL,
@@ -25,20 +24,6 @@ pub const MAX_POOL: usize = 1_048_576;
 #[derive(Drop)]
 pub struct UnitTable<'a> {
     pub(crate) records: Records<'a>,
-    ghost units_fit: { Sized records.unit_count (length records.units.now) 64 },
-    ghost entries_fit: { Sized records.entry_count (length records.entries.now) 65535 },
-    ghost attributes_fit: { Sized records.attribute_count (length records.attributes.now) 65535 },
-    ghost pool_fits: { length records.pool.now ≤ 1048576 },
-    ghost kin_ends: { Ends (kin records.entries.now records.entry_count) (length records.entries.now) },
-    ghost kin_owned: { Owned (kin records.entries.now records.entry_count) (length records.entries.now) records.entry_count },
-    ghost lasts: { Lasts records.entries.now records.entry_count },
-    ghost parented: { Parented records.entries.now records.entry_count },
-    ghost listed: { Listed records.entries.now records.entry_count },
-    ghost akin: { Akin records.entries.now records.entry_count },
-    ghost housed: { Housed records.entries.now records.entry_count records.unit_count },
-    ghost rooted: { Rooted records.units.now records.unit_count records.entries.now records.entry_count },
-    ghost held_ends: { Ends (holdings records.entries.now records.entry_count records.attributes.now records.free) (length records.attributes.now) },
-    ghost held_owned: { Owned (holdings records.entries.now records.entry_count records.attributes.now records.free) (length records.attributes.now) records.attribute_count },
 }
 
 impl<'a> UnitTable<'a> {
@@ -107,13 +92,19 @@ impl<'a> UnitTable<'a> {
     pub fn root(&self, id: UnitId) -> Option<UnitEntryId>
         ensures { result ≡ root_of (view self.now.records) id }
     {
-        match self.unit_record(id) {
-            None => None,
-            Some(unit) => Some(UnitEntryId {
-                table: self.records.number,
-                unit: id.unit,
-                entry: unit.root as u32,
-            }),
+        let unit = self.unit_record(id)?;
+        Some(self.name_entry(id.unit, unit.root as usize))
+    }
+
+    // The id of an entry of a unit.
+    fn name_entry(&self, unit: u32, entry: usize) -> UnitEntryId
+        requires { entry ≤ 65535 }
+        ensures { result ≡ record { table = self.now.records.number; unit = unit; entry = entry } }
+    {
+        UnitEntryId {
+            table: self.records.number,
+            unit,
+            entry: entry as u32,
         }
     }
 
@@ -137,7 +128,8 @@ impl<'a> UnitTable<'a> {
         Some(self.records.entries[id.entry as usize])
     }
 
-    // The first child of an entry, NIL where there is none or the id is not known.
+    // The first child of an entry, NIL where there is none or the id is not known: a link, at which
+    // a cursor begins, and NIL is the end of every list.
     pub(crate) fn first_child(&self, id: UnitEntryId) -> u16
         ensures { FirstOf self.now.records id result }
     {
@@ -147,7 +139,8 @@ impl<'a> UnitTable<'a> {
         self.records.entries[id.entry as usize].first
     }
 
-    // The record of an entry's first attribute, NIL where there is none or the id is not known.
+    // The record of an entry's first attribute, NIL where there is none or the id is not known: a
+    // link, as the first child.
     pub(crate) fn first_attribute(&self, id: UnitEntryId) -> u16
         ensures { FirstAttributeOf self.now.records id result }
     {
@@ -157,7 +150,8 @@ impl<'a> UnitTable<'a> {
         self.records.entries[id.entry as usize].attribute
     }
 
-    // What every edit of a unit checks first: session closed, an id not known, unit written.
+    // What every edit of a unit checks first: session closed, an id not known, unit written. Each
+    // call tests ids of its own, so that its answer comes in as a flag: a form for each would be no plainer.
     fn check(&self, known: bool, unit: u32) -> Result<(), EditFault>
         requires { known ≡ true → unit < self.now.records.unit_count }
         ensures { result ≡ passes (first_fault (edit_checks (view self.now.records) known unit [])) }
@@ -178,7 +172,7 @@ impl<'a> UnitTable<'a> {
     pub(crate) fn try_add(
         &mut self,
         encoding: Encoding,
-        line: LineProgram,
+        line: Option<LineProgram>,
     ) -> Result<UnitId, EditFault>
         ensures outcome { (view self.new.records, result) ≡ add_unit (view self.old.records) encoding line }
         ensures declined { is_ok result ≡ false → self.new ≡ self.old }
@@ -214,21 +208,9 @@ impl<'a> UnitTable<'a> {
         if entry >= self.records.entries.len() {
             return Err(EditFault::TableFull);
         }
-        let table = self.records.number;
-        let id = UnitEntryId {
-            table,
-            unit: unit.unit,
-            entry: entry as u32,
-        };
+        let id = self.name_entry(unit.unit, entry);
         self.records.grant(unit.unit as u16);
-        Ok((
-            id,
-            Reservation {
-                table,
-                unit: unit.unit,
-                entry: entry as u32,
-            },
-        ))
+        Ok((id, Reservation { id }))
     }
 
     // Spends a reservation: its entry becomes the last child of `parent`.
@@ -241,22 +223,18 @@ impl<'a> UnitTable<'a> {
         ensures outcome { (view self.new.records, result) ≡ add_reserved (view self.old.records) reservation parent tag }
         ensures declined { is_ok result ≡ false → self.new ≡ self.old }
     {
-        let known = self.knows_both(reservation.id(), parent);
-        if let Err(fault) = self.check(known, reservation.unit) {
+        let id = reservation.id;
+        if let Err(fault) = self.check(self.knows_both(id, parent), id.unit) {
             return Err(Refusal { fault, reservation });
         }
-        let c = reservation.entry as usize;
+        let c = id.entry as usize;
         if !self.records.entries[c].state.is_waiting() {
             return Err(Refusal {
                 fault: EditFault::NotWaiting,
                 reservation,
             });
         }
-        let Reservation {
-            table: _,
-            unit: _,
-            entry: _,
-        } = reservation;
+        let Reservation { id: _ } = reservation;
         self.records.place(c, parent.entry as usize, tag);
         Ok(())
     }
@@ -275,11 +253,7 @@ impl<'a> UnitTable<'a> {
         if entry >= self.records.entries.len() {
             return Err(EditFault::TableFull);
         }
-        let id = UnitEntryId {
-            table: self.records.number,
-            unit: parent.unit,
-            entry: entry as u32,
-        };
+        let id = self.name_entry(parent.unit, entry);
         self.records.grant(parent.unit as u16);
         self.records.place(entry, parent.entry as usize, tag);
         Ok(id)
@@ -290,13 +264,8 @@ impl<'a> UnitTable<'a> {
         ensures outcome { (view self.new.records, result) ≡ give_back (view self.old.records) reservation }
         ensures declined { result ≡ false → self.new ≡ self.old }
     {
-        let id = reservation.id();
-        let Reservation {
-            table: _,
-            unit: _,
-            entry,
-        } = reservation;
-        let e = entry as usize;
+        let Reservation { id } = reservation;
+        let e = id.entry as usize;
         if !self.knows(id) {
             return false;
         }
@@ -347,10 +316,9 @@ impl<'a> UnitTable<'a> {
         ensures { result ≡ fits (length self.now.records.pool.now) value }
     {
         let size = self.records.pool.len();
-        match value.span() {
-            None => true,
-            Some(span) => span.start <= size && span.len <= size - span.start,
-        }
+        value
+            .span()
+            .is_none_or(|span| span.start <= size && span.len <= size - span.start)
     }
 
     // Sets an attribute: its value is replaced where its name stands, or it is appended.
@@ -371,21 +339,16 @@ impl<'a> UnitTable<'a> {
             return Err(EditFault::SpanOutOfBounds);
         }
         let e = id.entry as usize;
-        let place = self.records.find(e, name);
-        if place.at != NIL {
-            self.records.replace(
-                e,
-                place.before,
-                place.at as usize,
-                Attribute { name, value },
-            );
-            return Ok(());
+        let attribute = Attribute { name, value };
+        match self.records.find(e, name) {
+            Ok(place) => self.records.replace(e, place, attribute),
+            Err(last) => {
+                if !self.records.has_spare() {
+                    return Err(EditFault::TableFull);
+                }
+                self.records.append(e, last, attribute);
+            }
         }
-        if !self.records.has_spare() {
-            return Err(EditFault::TableFull);
-        }
-        self.records
-            .append(e, place.before, Attribute { name, value });
         Ok(())
     }
 
@@ -396,11 +359,9 @@ impl<'a> UnitTable<'a> {
     {
         self.check(self.knows(id), id.unit)?;
         let e = id.entry as usize;
-        let place = self.records.find(e, name);
-        if place.at == NIL {
-            return Ok(());
+        if let Ok(place) = self.records.find(e, name) {
+            self.records.remove(e, place);
         }
-        self.records.remove(e, place.before, place.at as usize);
         Ok(())
     }
 }
@@ -410,10 +371,6 @@ impl Reservation {
     pub fn id(&self) -> UnitEntryId
         ensures { result ≡ entry_id self.now }
     {
-        UnitEntryId {
-            table: self.table,
-            unit: self.unit,
-            entry: self.entry,
-        }
+        self.id
     }
 }

@@ -1,43 +1,54 @@
-ghost use Rattle.std.specs.Prelude.{◌≡◌, ◌≤◌, true, false, [], ◌∷◌, length, IfNone, MatchOption};
-ghost use Rattle.trees.specs.View.{view};
-ghost use Rattle.trees.specs.Reach.{events_in, EntersReached};
-ghost use Rattle.trees.specs.Walk.{rest, Ending, unit_events, entered, root_record, Once};
+ghost use Rattle.std.specs.Prelude.{◌≡◌, ◌≤◌, length};
+ghost use Rattle.trees.specs.Walk.{Ending};
 
 use crate::records::{EntryRecord, Event, NIL, UnitId};
 use crate::store::pick;
 use crate::table::UnitTable;
 
-// A walk through the tree of a unit, along the links, step by step.
+// Where a walk stands: before an entry and those below it, or after them.
+#[derive(Clone, Copy)]
+enum Spot {
+    Before(u16),
+    After(u16),
+}
+
+// A walk through the tree of a unit, along the links, step by step. Its events are said over the whole memory, of
+// which `count` records are in use.
 #[derive(Drop)]
 pub struct Walk<'a> {
     entries: &'a [EntryRecord],
     count: usize,
     root: u16,
-    at: u16,
-    up: bool,
+    spot: Spot,
     ghost inside: { count ≤ length entries.now },
-    ghost ending: { Ending entries.now count root at up },
+    ghost ending: { Ending entries.now count root spot },
 }
 
 impl<'a> UnitTable<'a> {
+    ghost use Rattle.trees.specs.Left.{events_left, EventsInOrder};
+    ghost use Rattle.trees.specs.Reach.{events_in, EntersReached};
+    ghost use Rattle.trees.specs.View.{view};
+    ghost use Rattle.trees.specs.Walk.{unit_events, entered, root_record, Once};
+
     // The walk from the root of a unit, and a finished one where the unit is not known.
     pub fn walk(&self, unit: UnitId) -> Walk<'_>
-        ensures events { rest result.entries.now result.count result.root result.at result.up ≡ unit_events self.now.records unit }
+        ensures events { events_left result ≡ unit_events self.now.records unit }
         ensures tree { unit_events self.now.records unit ≡ events_in (view self.now.records) unit }
         ensures reached { EntersReached (view self.now.records) unit }
         ensures once { Once (entered (unit_events self.now.records unit)) }
+        ensures runs { EventsInOrder }
     {
         let root = self.root_record(unit);
         Walk {
             entries: &*self.records.entries,
             count: self.records.entry_count,
             root,
-            at: root,
-            up: false,
+            spot: Spot::Before(root),
         }
     }
 
-    // The record of a unit's root, NIL where the unit is not known.
+    // The record of a unit's root, NIL where the unit is not known: a link, at which a walk begins,
+    // and past the entries it is finished.
     fn root_record(&self, unit: UnitId) -> u16
         ensures { result ≡ root_record self.now.records unit }
     {
@@ -49,38 +60,52 @@ impl<'a> UnitTable<'a> {
 }
 
 impl<'a> Walk<'a> {
-    // The next event, or none at the end.
-    pub fn next(&mut self) -> Option<Event>
-        ensures given { MatchOption result (rest self.old.entries.now self.old.count self.old.root self.old.at self.old.up ≡ [])
-            (λ v. rest self.old.entries.now self.old.count self.old.root self.old.at self.old.up
-            ≡ v ∷ rest self.new.entries.now self.new.count self.new.root self.new.at self.new.up) }
+    ghost use Rattle.std.specs.Prelude.{[], ◌∷◌, IfNone, MatchOption};
+    ghost use Rattle.trees.specs.declared.walk.Spot.TheVariants.{Before};
+    ghost use Rattle.trees.specs.Left.{events_left};
+    ghost use Rattle.trees.specs.Walk.{rest};
+
+    // Into an entry: on to its first child, or past it.
+    fn enter(&mut self, e: u16) -> Option<Event>
+        requires { Ending self.old.entries.now self.old.count self.old.root (Before e) }
+        ensures given { MatchOption result (rest self.old.entries.now self.old.count self.old.root (Before e) ≡ [])
+            (λ v. rest self.old.entries.now self.old.count self.old.root (Before e) ≡ v ∷ events_left self.new) }
         ensures stays { IfNone result (self.new ≡ self.old) }
         ensures kept { self.new.entries.now ≡ self.old.entries.now }
     {
-        let at = self.at;
-        if at as usize >= self.count {
+        if e as usize >= self.count {
             return None;
         }
-        let record = self.entries[at as usize];
-        if !self.up {
-            self.at = pick(record.first, at, record.first);
-            self.up = record.first == NIL;
-            return Some(Event::Enter(at));
+        let first = self.entries[e as usize].first;
+        self.spot = pick(first, Spot::After(e), Spot::Before(first));
+        Some(Event::Enter(e))
+    }
+}
+
+impl<'a> Iterator for Walk<'a> {
+    ghost use Rattle.std.specs.Iterator.{item_count};
+    ghost use Rattle.trees.specs.Left.{events_left, EventSteps};
+
+    type Item = Event;
+
+    ghost next_gives = { EventSteps };
+
+    ghost remaining = { item_count events_left };
+
+    fn next(&mut self) -> Option<Event> {
+        match self.spot {
+            Spot::Before(e) => self.enter(e),
+            Spot::After(e) => {
+                if e as usize >= self.count || e == self.root {
+                    return None;
+                }
+                let record = self.entries[e as usize];
+                if record.next != NIL {
+                    return self.enter(record.next);
+                }
+                self.spot = Spot::After(record.parent);
+                Some(Event::Leave(record.parent))
+            }
         }
-        if at == self.root {
-            return None;
-        }
-        if record.next == NIL {
-            self.at = record.parent;
-            return Some(Event::Leave(record.parent));
-        }
-        let next = record.next;
-        if next as usize >= self.count {
-            return None;
-        }
-        let first = self.entries[next as usize].first;
-        self.at = pick(first, next, first);
-        self.up = first == NIL;
-        Some(Event::Enter(next))
     }
 }

@@ -1,8 +1,10 @@
 #![tactic(auto)]
 
 // Builds a table of DWARF units call by call, as a script on standard input says.
+mod look;
 mod report;
 mod run;
+mod scene;
 mod words;
 
 use run::Entry;

@@ -1,86 +1,20 @@
-use super::run::TABLE;
-use super::words::{Indent, Quoted, attribute, bare, coded, role, tag};
+use super::scene::Scene;
+use super::words::{Code, Indent, Place, Quoted, bare, coded, role};
 use numbers::{Format, RunTimeEndian};
-use scripts::{Kind, Opening, Payload, kind_of, payload_of};
-use sessions::{Hex, attributes, bytes_of, events, name_of};
+use scripts::{Kind, Opening, Payload, dwarf, kind_of, payload_of};
+use sessions::{Hex, bytes_of};
 use std::io;
 use trees::{
-    Attribute, AttributeValue, Counts, Event, Left, LineProgram, Reservation, UnitEntryId, UnitId,
-    UnitRecord, UnitTable,
+    Attribute, AttributeValue, Counts, Event, Left, LineProgram, UnitEntryId, UnitId, UnitRecord,
 };
 
 // The name attribute.
 const NAME: u16 = 3;
 
-// The most units of a table.
-const UNITS: u32 = 64;
-
-// What a report is about.
-#[derive(Clone, Copy)]
-pub struct Scene<'p, 'h> {
-    pub pool: &'p [u8],
-    pub homes: &'h [u32],
-}
-
-fn print_bytes(rt: &HostRuntime, scene: Scene<'_, '_>, value: AttributeValue) -> io::Result<()> {
-    match value {
-        AttributeValue::String(span) => {
-            let text = Quoted(bytes_of(scene.pool, span));
-            print!(rt; "{text}")
-        }
-        AttributeValue::Block(span) | AttributeValue::Exprloc(span) => {
-            let bytes = Hex(bytes_of(scene.pool, span));
-            print!(rt; "{bytes}")
-        }
-        _ => Ok(()),
-    }
-}
-
-// The name of an entry, if it has one.
-fn print_name(
-    rt: &HostRuntime,
-    table: &UnitTable<'_>,
-    scene: Scene<'_, '_>,
-    id: UnitEntryId,
-) -> io::Result<()> {
-    let found = attributes(rt.alloc(), table, id)?;
-    for attribute in found.as_slice() {
-        if attribute.name == NAME {
-            print!(rt; " ")?;
-            print_bytes(rt, scene, attribute.value)?;
-        }
-    }
-    Ok(())
-}
-
-// An entry that a value refers to: where it stands, its tag and its name.
-fn print_reference(
-    rt: &HostRuntime,
-    table: &UnitTable<'_>,
-    scene: Scene<'_, '_>,
-    id: UnitEntryId,
-) -> io::Result<()> {
-    let unit = id.unit;
-    if let Some(name) = name_of(scene.homes, id.entry as usize) {
-        let entry = name.entry;
-        print!(rt; "unit {unit} entry {entry}")?;
-    }
-    match table.entry(id) {
-        Some((0, _)) => print!(rt; ", not added"),
-        Some((code, _)) => {
-            let named = tag(code);
-            print!(rt; ", {named}")?;
-            print_name(rt, table, scene, id)
-        }
-        None => print!(rt; ", given back"),
-    }
-}
-
 fn print_number(rt: &HostRuntime, kind: Kind, n: u64) -> io::Result<()> {
-    if n <= 0xffff {
-        if let Some(name) = coded(kind, n as u16) {
-            return print!(rt; "{name}");
-        }
+    let code = u16::try_from(n).ok();
+    if let Some(name) = code.and_then(|code| coded(kind, code)) {
+        return print!(rt; "{name}");
     }
     let what = role(kind);
     match kind {
@@ -88,28 +22,6 @@ fn print_number(rt: &HostRuntime, kind: Kind, n: u64) -> io::Result<()> {
         Kind::Data1 | Kind::Data2 | Kind::Data4 | Kind::Data8 | Kind::Udata => print!(rt; "{n}"),
         Kind::Flag => print!(rt; "{}", if n == 1 { "yes" } else { "no" }),
         _ => print!(rt; "{what}0x{n:x}"),
-    }
-}
-
-// A value in the subject's words.
-fn print_value(
-    rt: &HostRuntime,
-    table: &UnitTable<'_>,
-    scene: Scene<'_, '_>,
-    value: AttributeValue,
-) -> io::Result<()> {
-    let kind = kind_of(value);
-    match payload_of(value) {
-        Payload::Nothing => {
-            let text = bare(kind);
-            print!(rt; "{text}")
-        }
-        Payload::Number(n) => print_number(rt, kind, n),
-        Payload::Signed(n) => print!(rt; "{n}"),
-        Payload::Pair(high, low) => print!(rt; "0x{high:016x}{low:016x}"),
-        Payload::Symbol(symbol, addend) => print!(rt; "symbol {symbol} plus {addend}"),
-        Payload::Bytes(_) => print_bytes(rt, scene, value),
-        Payload::Entry(id) => print_reference(rt, table, scene, id),
     }
 }
 
@@ -122,73 +34,9 @@ fn print_head(
     sibling: bool,
 ) -> io::Result<()> {
     let indent = Indent(depth);
-    let named = tag(code);
+    let tag = Code::among(&dwarf::TAGS, code);
     let mark = if sibling { "  (sibling)" } else { "" };
-    println!(rt; "{number:>5}  {indent}{named}{mark}")
-}
-
-// The name and the value of an attribute.
-fn print_attribute(
-    rt: &HostRuntime,
-    table: &UnitTable<'_>,
-    scene: Scene<'_, '_>,
-    depth: usize,
-    item: Attribute,
-) -> io::Result<()> {
-    let indent = Indent(depth);
-    let name = attribute(item.name).to_string(rt.alloc())?;
-    print!(rt; "           {indent}{name:<28}  ")?;
-    print_value(rt, table, scene, item.value)?;
-    println!(rt; "")
-}
-
-// An entry, and below it its attributes.
-fn print_entry(
-    rt: &HostRuntime,
-    table: &UnitTable<'_>,
-    scene: Scene<'_, '_>,
-    id: UnitEntryId,
-    depth: usize,
-) -> io::Result<()> {
-    let Some((code, sibling)) = table.entry(id) else {
-        return Ok(());
-    };
-    if let Some(name) = name_of(scene.homes, id.entry as usize) {
-        print_head(rt, name.entry, depth, code, sibling)?;
-    }
-    let found = attributes(rt.alloc(), table, id)?;
-    for item in found.as_slice() {
-        print_attribute(rt, table, scene, depth, *item)?;
-    }
-    Ok(())
-}
-
-// The reached tree of a unit.
-fn print_tree(
-    rt: &HostRuntime,
-    table: &UnitTable<'_>,
-    scene: Scene<'_, '_>,
-    unit: UnitId,
-) -> io::Result<()> {
-    let mut depth = 0usize;
-    let found = events(rt.alloc(), table, unit)?;
-    for event in found.as_slice() {
-        match *event {
-            Event::Enter(e) => {
-                let id = UnitEntryId {
-                    table: unit.table,
-                    unit: unit.unit,
-                    entry: e as u32,
-                };
-                print_entry(rt, table, scene, id, depth)?;
-                if table.children(id).next().is_some() {
-                    depth = depth.saturating_add(1);
-                }
-            }
-            Event::Leave(_) => depth = depth.saturating_sub(1),
-        }
-    }
-    Ok(())
+    println!(rt; "{number:>5}  {indent}{tag}{mark}")
 }
 
 fn print_unit(rt: &HostRuntime, unit: u32, record: UnitRecord) -> io::Result<()> {
@@ -200,8 +48,8 @@ fn print_unit(rt: &HostRuntime, unit: u32, record: UnitRecord) -> io::Result<()>
     };
     print!(rt; "unit {unit}: DWARF {version}, {bits}, addresses of {size} bytes, ")?;
     match record.line {
-        LineProgram::None => println!(rt; "no line program"),
-        LineProgram::At { offset, empty } => {
+        None => println!(rt; "no line program"),
+        Some(LineProgram { offset, empty }) => {
             let what = if empty {
                 "an empty line program"
             } else {
@@ -214,35 +62,27 @@ fn print_unit(rt: &HostRuntime, unit: u32, record: UnitRecord) -> io::Result<()>
 
 // What became of the entries.
 fn print_states(rt: &HostRuntime, counts: Counts) -> io::Result<()> {
-    let waiting = counts.waiting;
-    let placed = counts.placed;
-    let out = counts.taken_out;
-    let back = counts.given_back;
+    let Counts {
+        waiting,
+        placed,
+        taken_out,
+        given_back,
+    } = counts;
     let granted = waiting
         .saturating_add(placed)
-        .saturating_add(out)
-        .saturating_add(back);
+        .saturating_add(taken_out)
+        .saturating_add(given_back);
     print!(rt; "entries granted {granted}: placed {placed}, waiting {waiting}")?;
-    println!(rt; ", taken out {out}, given back {back}")
-}
-
-// The reservations that nothing has spent.
-fn print_held(rt: &HostRuntime, homes: &[u32], held: &[Reservation]) -> io::Result<()> {
-    for reservation in held {
-        if let Some(name) = name_of(homes, reservation.id().entry as usize) {
-            let unit = name.unit;
-            let entry = name.entry;
-            println!(rt; "still waiting: unit {unit} entry {entry}")?;
-        }
-    }
-    Ok(())
+    println!(rt; ", taken out {taken_out}, given back {given_back}")
 }
 
 fn print_left(rt: &HostRuntime, left: Left) -> io::Result<()> {
-    let units = left.units;
-    let entries = left.entries;
-    let spare = left.attributes;
-    println!(rt; "records left: units {units}, entries {entries}, attributes {spare}")?;
+    let Left {
+        units,
+        entries,
+        attributes,
+    } = left;
+    println!(rt; "records left: units {units}, entries {entries}, attributes {attributes}")?;
     println!(rt; "")
 }
 
@@ -257,24 +97,135 @@ fn print_title(rt: &HostRuntime, opening: &Opening) -> io::Result<()> {
     println!(rt; "")
 }
 
-// What a session has come to.
-pub fn report(
-    rt: &HostRuntime,
-    table: &UnitTable<'_>,
-    scene: Scene<'_, '_>,
-    held: &[Reservation],
-    opening: &Opening,
-) -> io::Result<()> {
-    print_title(rt, opening)?;
-    for unit in 0..UNITS {
-        let id = UnitId { table: TABLE, unit };
-        if let Some(record) = table.unit(id) {
-            print_unit(rt, unit, record)?;
-            print_tree(rt, table, scene, id)?;
-            println!(rt; "")?;
+impl Scene<'_, '_> {
+    // What a session has come to.
+    pub fn report(self, opening: &Opening) -> io::Result<()> {
+        print_title(self.rt, opening)?;
+        let table = self.roll().table;
+        // A unit's id is its number: there is no list of units to go over.
+        for unit in 0..self.table().count() as u32 {
+            let id = UnitId { table, unit };
+            if let Some(record) = self.table().unit(id) {
+                print_unit(self.rt, unit, record)?;
+                self.print_tree(id)?;
+                println!(self.rt; "")?;
+            }
+        }
+        print_states(self.rt, self.table().counts())?;
+        self.print_held()?;
+        print_left(self.rt, self.table().left())
+    }
+
+    // The reached tree of a unit.
+    fn print_tree(self, unit: UnitId) -> io::Result<()> {
+        let mut depth = 0usize;
+        for event in self.table().walk(unit) {
+            match event {
+                Event::Enter(e) => {
+                    let id = UnitEntryId {
+                        table: unit.table,
+                        unit: unit.unit,
+                        entry: e as u32,
+                    };
+                    self.print_entry(id, depth)?;
+                    if self.table().children(id).next().is_some() {
+                        depth = depth.saturating_add(1);
+                    }
+                }
+                Event::Leave(_) => depth = depth.saturating_sub(1),
+            }
+        }
+        Ok(())
+    }
+
+    // An entry, and below it its attributes.
+    fn print_entry(self, id: UnitEntryId, depth: usize) -> io::Result<()> {
+        let Some((code, sibling)) = self.table().entry(id) else {
+            return Ok(());
+        };
+        if let Some(name) = self.roll().name_of(id.entry as usize) {
+            print_head(self.rt, name.entry, depth, code, sibling)?;
+        }
+        for item in self.table().attrs(id) {
+            self.print_attribute(depth, item)?;
+        }
+        Ok(())
+    }
+
+    // The name and the value of an attribute.
+    fn print_attribute(self, depth: usize, item: Attribute) -> io::Result<()> {
+        let indent = Indent(depth);
+        let name = Code::among(&dwarf::ATTRIBUTES, item.name).to_string(self.rt.alloc())?;
+        print!(self.rt; "           {indent}{name:<28}  ")?;
+        self.print_value(item.value)?;
+        println!(self.rt; "")
+    }
+
+    // A value in the subject's words.
+    fn print_value(self, value: AttributeValue) -> io::Result<()> {
+        let kind = kind_of(value);
+        match payload_of(value) {
+            Payload::Nothing => {
+                let text = bare(kind);
+                print!(self.rt; "{text}")
+            }
+            Payload::Number(n) => print_number(self.rt, kind, n),
+            Payload::Signed(n) => print!(self.rt; "{n}"),
+            Payload::Pair(high, low) => print!(self.rt; "0x{high:016x}{low:016x}"),
+            Payload::Symbol(symbol, plus) => print!(self.rt; "symbol {symbol} plus {plus}"),
+            Payload::Bytes(_) => self.print_bytes(value),
+            Payload::Entry(id) => self.print_reference(id),
         }
     }
-    print_states(rt, table.counts())?;
-    print_held(rt, scene.homes, held)?;
-    print_left(rt, table.left())
+
+    fn print_bytes(self, value: AttributeValue) -> io::Result<()> {
+        match value {
+            AttributeValue::String(span) => {
+                let text = Quoted(bytes_of(self.pool, span));
+                print!(self.rt; "{text}")
+            }
+            AttributeValue::Block(span) | AttributeValue::Exprloc(span) => {
+                let bytes = Hex(bytes_of(self.pool, span));
+                print!(self.rt; "{bytes}")
+            }
+            _ => Ok(()),
+        }
+    }
+
+    // An entry that a value refers to: where it stands, its tag and its name.
+    fn print_reference(self, id: UnitEntryId) -> io::Result<()> {
+        if let Some(name) = self.roll().name_of(id.entry as usize) {
+            let place = Place(name);
+            print!(self.rt; "{place}")?;
+        }
+        match self.table().entry(id) {
+            Some((0, _)) => print!(self.rt; ", not added"),
+            Some((code, _)) => {
+                let tag = Code::among(&dwarf::TAGS, code);
+                print!(self.rt; ", {tag}")?;
+                self.print_name(id)
+            }
+            None => print!(self.rt; ", given back"),
+        }
+    }
+
+    // The name of an entry, if it has one.
+    fn print_name(self, id: UnitEntryId) -> io::Result<()> {
+        for attribute in self.table().attrs(id).filter(|it| it.name == NAME) {
+            print!(self.rt; " ")?;
+            self.print_bytes(attribute.value)?;
+        }
+        Ok(())
+    }
+
+    // The reservations that nothing has spent.
+    fn print_held(self) -> io::Result<()> {
+        for reservation in self.session.ledger.held.as_slice() {
+            if let Some(name) = self.roll().name_of(reservation.id().entry as usize) {
+                let place = Place(name);
+                println!(self.rt; "still waiting: {place}")?;
+            }
+        }
+        Ok(())
+    }
 }

@@ -1,4 +1,4 @@
-use scripts::{Kind, dwarf, name_in};
+use scripts::{EntryName, Kind, Row, dwarf, name_in};
 use std::fmt;
 
 // A code by its name, and in digits where DWARF has no name for it.
@@ -20,39 +20,40 @@ impl fmt::Display for Code {
     }
 }
 
-pub fn tag(code: u16) -> Code {
-    Code {
-        name: name_in(&dwarf::TAGS, code),
-        code,
+impl Code {
+    // A code among the rows of its table.
+    pub fn among(rows: &[Row], code: u16) -> Code {
+        Code {
+            name: name_in(rows, code),
+            code,
+        }
     }
 }
 
-pub fn attribute(code: u16) -> Code {
-    Code {
-        name: name_in(&dwarf::ATTRIBUTES, code),
-        code,
+// The codes of a kind of value: none of a kind that has no codes.
+fn codes(kind: Kind) -> &'static [Row] {
+    match kind {
+        Kind::Encoding => &dwarf::ENCODINGS,
+        Kind::DecimalSign => &dwarf::DECIMAL_SIGNS,
+        Kind::Endianity => &dwarf::ENDIANITIES,
+        Kind::Accessibility => &dwarf::ACCESSES,
+        Kind::Visibility => &dwarf::VISIBILITIES,
+        Kind::Virtuality => &dwarf::VIRTUALITIES,
+        Kind::Language => &dwarf::LANGUAGES,
+        Kind::IdentifierCase => &dwarf::CASES,
+        Kind::CallingConvention => &dwarf::CALLS,
+        Kind::Inline => &dwarf::INLINES,
+        Kind::Ordering => &dwarf::ORDERINGS,
+        _ => &[],
     }
 }
 
 // The name of a code of a kind of value, if the kind has codes and one of them is this.
 pub fn coded(kind: Kind, code: u16) -> Option<&'static str> {
-    match kind {
-        Kind::Encoding => name_in(&dwarf::ENCODINGS, code),
-        Kind::DecimalSign => name_in(&dwarf::DECIMAL_SIGNS, code),
-        Kind::Endianity => name_in(&dwarf::ENDIANITIES, code),
-        Kind::Accessibility => name_in(&dwarf::ACCESSES, code),
-        Kind::Visibility => name_in(&dwarf::VISIBILITIES, code),
-        Kind::Virtuality => name_in(&dwarf::VIRTUALITIES, code),
-        Kind::Language => name_in(&dwarf::LANGUAGES, code),
-        Kind::IdentifierCase => name_in(&dwarf::CASES, code),
-        Kind::CallingConvention => name_in(&dwarf::CALLS, code),
-        Kind::Inline => name_in(&dwarf::INLINES, code),
-        Kind::Ordering => name_in(&dwarf::ORDERINGS, code),
-        _ => None,
-    }
+    name_in(codes(kind), code)
 }
 
-// What a number is, before it and after it, by its kind.
+// What a number is, before it, by its kind: nothing where the number says it all.
 pub fn role(kind: Kind) -> &'static str {
     match kind {
         Kind::InfoRefSymbol => "symbol ",
@@ -111,6 +112,17 @@ impl fmt::Display for Quoted<'_> {
             write!(f, "{letter}")?;
         }
         f.write_str("\"")
+    }
+}
+
+// Where an entry stands.
+#[derive(Clone, Copy)]
+pub struct Place(pub EntryName);
+
+impl fmt::Display for Place {
+    fn fmt<W: fmt::Write>(&self, f: &mut fmt::Formatter<W>) -> fmt::Result {
+        let EntryName { unit, entry } = self.0;
+        write!(f, "unit {unit} entry {entry}")
     }
 }
 

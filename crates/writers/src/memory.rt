@@ -1,5 +1,5 @@
-ghost use Rattle.std.specs.Prelude.{◌≡◌, ℕ, ◌+◌, ◌≤◌, min, ◌++◌, length, drop};
-ghost use Rattle.sections.specs.Section.{over, section_limit};
+ghost use Rattle.std.specs.Prelude.{◌≡◌, ◌+◌, ◌≤◌, ◌++◌, length, drop};
+ghost use Rattle.sections.specs.Section.{over};
 ghost use Rattle.writers.specs.Memory.{section_room, Appended, Placed};
 
 use sections::Fault;
@@ -7,20 +7,20 @@ use sections::Fault;
 // The longest section.
 pub const SECTION_LIMIT: usize = 2_147_483_647;
 
-// How many bytes a section over memory of this length can have.
-pub fn room(n: usize) -> usize
-    ensures { result ≡ min n section_limit }
+// How many bytes a section over memory can have.
+pub fn room(memory: &[u8]) -> usize
+    ensures { result ≡ section_room memory.now }
 {
-    n.min(SECTION_LIMIT)
+    memory.len().min(SECTION_LIMIT)
 }
 
 // Appends to a section that is the first `len` bytes of memory, and answers its new length.
+// Memory and length stay two arguments here and below: a struct of both would lend the memory anew for each call.
 pub fn append_front(memory: &mut [u8], len: usize, bytes: &[u8]) -> Result<usize, Fault>
     requires { len ≤ section_room memory.old }
     ensures { Appended len bytes.now memory.old memory.new result }
 {
-    let n = memory.len();
-    if room(n) - len < bytes.len() {
+    if room(memory) - len < bytes.len() {
         return Err(Fault::SectionFull);
     }
     overwrite(memory, len, bytes);

@@ -12,25 +12,20 @@ use sections::{Contents, Fault, LinkWriter, Note, Writer};
 struct Page {
     bytes: [u8; 4096],
     len: usize,
+    ghost whole: { length bytes ≡ 4096 },
+    ghost within: { len ≤ section_room bytes },
 }
 
 impl Page {
     fn append(&mut self, bytes: &[u8]) -> Result<(), Fault>
-        requires { self.old.len ≤ section_room self.old.bytes }
-        ensures whole { length self.new.bytes ≡ length self.old.bytes }
-        ensures within { self.new.len ≤ section_room self.new.bytes }
-        ensures ran { (big : Bool) → Ran (append bytes.now) (front big self.old.len self.old.bytes) (front big self.new.len self.new.bytes) result }
+        ensures { (big : Bool) → Ran (append bytes.now) (front big self.old.len self.old.bytes) (front big self.new.len self.new.bytes) result }
     {
-        let n = append_front(&mut self.bytes, self.len, bytes)?;
-        self.len = n;
+        self.len = append_front(&mut self.bytes, self.len, bytes)?;
         Ok(())
     }
 
     fn place(&mut self, offset: usize, bytes: &[u8]) -> Result<(), Fault>
-        requires { self.old.len ≤ section_room self.old.bytes }
-        ensures whole { length self.new.bytes ≡ length self.old.bytes }
-        ensures within { self.new.len ≤ section_room self.new.bytes }
-        ensures ran { (big : Bool) → Ran (place offset bytes.now) (front big self.old.len self.old.bytes) (front big self.new.len self.new.bytes) result }
+        ensures { (big : Bool) → Ran (place offset bytes.now) (front big self.old.len self.old.bytes) (front big self.new.len self.new.bytes) result }
     {
         place_front(&mut self.bytes, self.len, offset, bytes)
     }
@@ -41,8 +36,6 @@ impl Page {
 pub struct PageWriter<E> {
     page: Page,
     endian: E,
-    ghost whole: { length page.bytes ≡ 4096 },
-    ghost within: { page.len ≤ section_room page.bytes },
 }
 
 impl<E: Endianity> PageWriter<E> {
@@ -66,7 +59,7 @@ impl<E: Endianity> Writer for PageWriter<E> {
 
     ghost meaning = { λ w. front (E.Endianity.big w.endian) w.page.len w.page.bytes };
 
-    ghost bounded = { λ w. front_bounded (E.Endianity.big w.endian) w.page.len w.page.bytes w.within };
+    ghost bounded = { λ w. front_bounded (E.Endianity.big w.endian) w.page.len w.page.bytes w.page.within };
 
     ghost apart = { λ w. refl };
 
@@ -79,8 +72,7 @@ impl<E: Endianity> Writer for PageWriter<E> {
     }
 
     fn left(&self) -> usize {
-        let n = self.page.bytes.len();
-        room(n) - self.page.len
+        room(&self.page.bytes) - self.page.len
     }
 
     fn write(&mut self, bytes: &[u8]) -> Result<(), Fault> {
@@ -97,6 +89,7 @@ impl<E: Endianity> LinkWriter for PageWriter<E> {
 
     ghost relocates = { false };
 
+    // Not `Self::RELOCATES`: the check knows no constant of a generic impl.
     fn is_relocating(&self) -> bool {
         false
     }

@@ -1,6 +1,5 @@
-ghost use Rattle.std.specs.Prelude.{◌≡◌, ℕ, ◌+◌, ◌-◌, ◌≤◌, min, Bool, true, false, length, refl};
+ghost use Rattle.std.specs.Prelude.{◌≡◌, false, refl};
 ghost use Rattle.numbers.specs.Orders.{is_big};
-ghost use Rattle.sections.specs.Section.{Section, Ran, append, place};
 ghost use Rattle.writers.specs.Memory.{used, lent, lent_bounded, empty_over};
 
 use super::memory::{append_front, place_front, room};
@@ -9,6 +8,7 @@ use numbers::{Address, RunTimeEndian, SectionId};
 use sections::{Contents, Fault, LinkWriter, Note, Writer};
 
 // A writer over the caller's memory, whose byte order is told at run time.
+// It and `PageWriter` stay two types, each in its form: this one lends memory, that one owns a page and has its order in its type.
 #[derive(Drop)]
 pub struct SliceWriter<'a> {
     memory: &'a mut [u8],
@@ -32,26 +32,7 @@ impl<'a> SliceWriter<'a> {
     fn used(&self) -> usize
         ensures { result ≡ used self.now.len self.now.memory.now }
     {
-        let n = self.memory.len();
-        self.len.min(room(n))
-    }
-
-    fn append(&mut self, bytes: &[u8]) -> Result<(), Fault>
-        ensures order { self.new.endian ≡ self.old.endian }
-        ensures ran { (big : Bool) → Ran (append bytes.now) (lent big self.old.len self.old.memory.now) (lent big self.new.len self.new.memory.now) result }
-    {
-        let len = self.used();
-        let n = append_front(self.memory, len, bytes)?;
-        self.len = n;
-        Ok(())
-    }
-
-    fn place(&mut self, offset: usize, bytes: &[u8]) -> Result<(), Fault>
-        ensures order { self.new.endian ≡ self.old.endian }
-        ensures ran { (big : Bool) → Ran (place offset bytes.now) (lent big self.old.len self.old.memory.now) (lent big self.new.len self.new.memory.now) result }
-    {
-        let len = self.used();
-        place_front(self.memory, len, offset, bytes)
+        self.len.min(room(self.memory))
     }
 }
 
@@ -73,16 +54,18 @@ impl<'a> Writer for SliceWriter<'a> {
     }
 
     fn left(&self) -> usize {
-        let n = self.memory.len();
-        room(n) - self.used()
+        room(self.memory) - self.used()
     }
 
     fn write(&mut self, bytes: &[u8]) -> Result<(), Fault> {
-        self.append(bytes)
+        let len = self.used();
+        self.len = append_front(self.memory, len, bytes)?;
+        Ok(())
     }
 
     fn write_at(&mut self, offset: usize, bytes: &[u8]) -> Result<(), Fault> {
-        self.place(offset, bytes)
+        let len = self.used();
+        place_front(self.memory, len, offset, bytes)
     }
 }
 

@@ -1,28 +1,12 @@
 ghost use Rattle.std.specs.Prelude.{◌≡◌, length};
-ghost use Rattle.numbers.specs.Leb.{uleb, sleb};
+ghost use Rattle.numbers.specs.Leb.{leb};
 
-use super::value::{is_short, is_small, rest_signed, rest_unsigned};
+use super::Leb128;
+use super::septets::Septets;
 
-// The number of bytes of a number's unsigned LEB128.
-pub fn uleb128_size(mut val: u64) -> usize
-    ensures { result ≡ length (uleb val) }
+// The number of bytes of a number's LEB128.
+pub fn leb128_size<S: Septets>(val: S) -> usize
+    ensures { result ≡ length (leb S.groups val) }
 {
-    let mut len = 0;
-    while !is_small(val) {
-        len += 1;
-        val = rest_unsigned(val);
-    }
-    len + 1
-}
-
-// The number of bytes of a number's signed LEB128.
-pub fn sleb128_size(mut val: i64) -> usize
-    ensures { result ≡ length (sleb val) }
-{
-    let mut len = 0;
-    while !is_short(val) {
-        len += 1;
-        val = rest_signed(val);
-    }
-    len + 1
+    Leb128::new(val).len()
 }

@@ -1,25 +1,10 @@
-use Rattle.std.proofs.Common.{[], IfOk, vec_items, sym, subst, append-nil}
-use Rattle.scripts.specs.Values.{ValueFrom}
-use Rattle.scripts.proofs.Words.{no_words, one_word, two_words}
+use Rattle.std.proofs.Common.{IfErr, sym, subst, arith}
+use Rattle.scripts.specs.Complaints.{NoValue}
+use Rattle.scripts.proofs.Words.{one_word, two_words}
 use Rattle.scripts.proofs.values.kind_value.Goals as goal
 
-pub returns-in-0 : goal.returns-in-0
-returns-in-0 c = record {
-  kind = c.bare_value.ensures.kind;
-  reads = subst (λ ws. IfOk c.bare_value.result (λ v. ValueFrom v ws (vec_items c.args.pool.now))) (sym (no_words c.args.words.now c.in-0.is)) (c.bare_value.ensures.reads (vec_items c.args.pool.now));
-  grows = ([], sym (append-nil (vec_items c.args.pool.now)));
-}
+pub returns-in-len1-clause-refuses : goal.returns-in-len1-clause-refuses
+returns-in-len1-clause-refuses c = subst (λ ws. IfErr c.word_value.result (λ e. NoValue c.args.kind ws e)) (sym (one_word c.args.words.now (omega arith))) c.word_value.ensures.refuses
 
-pub returns-in-1 : goal.returns-in-1
-returns-in-1 c = record {
-  kind = c.word_value.ensures.kind;
-  reads = subst (λ ws. IfOk c.word_value.result (λ v. ValueFrom v ws (vec_items c.word_value.new.pool))) (sym (one_word c.args.words.now c.in-1.is)) c.word_value.ensures.reads;
-  grows = c.word_value.ensures.grows;
-}
-
-pub returns-in-2 : goal.returns-in-2
-returns-in-2 c = record {
-  kind = c.pair_value.ensures.kind;
-  reads = subst (λ ws. IfOk c.pair_value.result (λ v. ValueFrom v ws (vec_items c.args.pool.now))) (sym (two_words c.args.words.now c.in-2.is)) (c.pair_value.ensures.reads (vec_items c.args.pool.now));
-  grows = ([], sym (append-nil (vec_items c.args.pool.now)));
-}
+pub returns-in-len2-clause-refuses : goal.returns-in-len2-clause-refuses
+returns-in-len2-clause-refuses c = subst (λ ws. IfErr c.pair_value.result (λ e. NoValue c.args.kind ws e)) (sym (two_words c.args.words.now (omega arith))) c.pair_value.ensures.refuses

@@ -8,4 +8,5 @@ returns c =
     record {
       grows = (vec_items c.in_ok-read.read, more);
       bytes = c.in_ok-read.ensures ∙ ap Some (sym (put_last (vec_items c.args.pool.now) (vec_items c.in_ok-read.read) (vec_items c.extend_from_slice.new.self) c.len-start.result c.len.result more (c.len-start.ensures ∙ c.args.pool.now.ok.0) (c.len.ensures ∙ c.in_ok-read.read.ok.0)));
+      refuses = tt;
     }

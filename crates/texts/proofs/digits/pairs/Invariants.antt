@@ -1,6 +1,7 @@
-use Rattle.std.proofs.Common.{◌≡◌, ◌*◌, drop, vec_items}
-use Rattle.texts.specs.Texts.{bytes_after, bytes_from}
+use Rattle.std.proofs.Common.{◌≡◌, drop, vec_items}
+use Rattle.texts.specs.Texts.{bytes_from}
+use Rattle.texts.proofs.Texts.{after_pairs}
 use Rattle.texts.proofs.digits.pairs.Given as goal
 
-abbrev pub invariant-loop-i : goal.invariant-loop-i
-invariant-loop-i l = bytes_after (vec_items l.bytes) (drop (2 * l.i) l.text) ≡ bytes_from l.text
+abbrev pub invariant-loop-high : goal.invariant-loop-high
+invariant-loop-high l = after_pairs (vec_items l.bytes) (drop l.high-index l.pairs) ≡ bytes_from l.text

@@ -1,55 +1,33 @@
-use Rattle.std.proofs.Common.{ℕ, List, map, length, sym, ap, ◌∙◌, arith}
+use Rattle.std.proofs.Common.{ℕ, List, map, sym, ap, ◌∙◌, of_calls}
 use Rattle.std.proofs.lemmas.Bool.{lt-ltb, cond-true}
-use Rattle.trees.specs.Attributes.{lists, attribute_in}
-use Rattle.trees.specs.Counts.{any_file}
-use Rattle.trees.specs.Lists.{nil}
-use Rattle.trees.proofs.Families.{chain_nil}
+use Rattle.std.specs.List.{list_any}
+use Rattle.trees.specs.declared.chain.Chain.{Chain}
+use Rattle.trees.specs.declared.records.AttributeRecord.{AttributeRecord}
+use Rattle.trees.specs.Attributes.{attribute_in}
+use Rattle.trees.specs.Counts.{names_file, any_file}
+use Rattle.trees.specs.Left.{numbers_left, records_left}
+use Rattle.trees.proofs.Counting.{files_in}
+use Rattle.trees.proofs.Runs.{answered}
 use Rattle.trees.proofs.Values.{view_attributes}
 use Rattle.trees.proofs.Walks.{from}
-use Rattle.trees.proofs.Counting.{onward, file_here, file_later}
 use Rattle.trees.proofs.records.Records.entry_names_file.Goals as goal
 
-pub loop-at-init : goal.loop-at-init
-loop-at-init c =
+pub new-requires : goal.new-requires
+new-requires c =
     let s = c.args.self.now in
-    let f = from s c.requires.sound c.args.e _ (cond-true _ _ _ (lt-ltb c.args.e s.entry_count c.requires.used)) in
-    (f.0, f.1, ap (λ (xs : List ℕ). any_file (map (attribute_in s.attributes.now) xs)) f.2 ∙ sym (ap any_file (view_attributes s c.args.e c.requires.used)))
-
-pub bounds-self-at : goal.bounds-self-at
-unfolding nil
-bounds-self-at c =
-    let s = c.args.self.now in
-    let i = c.loop-at.invariant in
-    let w = onward s.attributes.now c.loop-at.at i.0 i.1 c.loop-at-test.true in
-    omega (arith, w.inside)
-
-pub returns-then-names_file : goal.returns-then-names_file
-unfolding nil
-returns-then-names_file c =
-    let s = c.args.self.now in
-    let i = c.loop-at.invariant in
-    let w = onward s.attributes.now c.loop-at.at i.0 i.1 c.loop-at-test.true in
-    sym (file_here s.attributes.now c.loop-at.at w (sym c.names_file.ensures ∙ c.if-names_file.true)) ∙ i.2
-
-pub loop-at-smaller : goal.loop-at-smaller
-unfolding nil
-loop-at-smaller c =
-    let s = c.args.self.now in
-    let i = c.loop-at.invariant in
-    let w = onward s.attributes.now c.loop-at.at i.0 i.1 c.loop-at-test.true in
-    let z = ap length w.list in omega arith
-
-pub loop-at-preserved : goal.loop-at-preserved
-unfolding nil
-loop-at-preserved c =
-    let s = c.args.self.now in
-    let i = c.loop-at.invariant in
-    let w = onward s.attributes.now c.loop-at.at i.0 i.1 c.loop-at-test.true in
-    (w.ends, w.lie, file_later s.attributes.now c.loop-at.at w (sym c.names_file.ensures ∙ c.if-names_file.false) ∙ i.2)
+    let f = from s c.args.e _ (cond-true _ _ _ (lt-ltb c.args.e s.entry_count c.requires.used)) in
+    record { ends = f.0; lies = f.1 }
 
 pub returns : goal.returns
-unfolding nil
 returns c =
     let s = c.args.self.now in
-    let i = c.loop-at.invariant in
-    sym (ap (λ (xs : List ℕ). any_file (map (attribute_in s.attributes.now) xs)) (chain_nil (lists s).next (length s.attributes.now) c.loop-at.at c.loop-at-test.false)) ∙ i.2
+    let f = from s c.args.e _ (cond-true _ _ _ (lt-ltb c.args.e s.entry_count c.requires.used)) in
+    let v = view_attributes s c.args.e c.requires.used in
+    let r = c.any.ensures.runs in
+    let n = c.new.result in
+    let z = answered _ _ (λ x. names_file x.1.attribute.value) r.0 (records_left r.0.from) (c.new.ensures.runs r.0 r.0.seen) (search of_calls) c.any.result r.2 in
+    z ∙ (ap (λ (x : Chain AttributeRecord _). list_any (λ (y : ℕ × AttributeRecord). names_file y.1.attribute.value) (records_left x)) r.1
+    ∙ (files_in n.records.now (numbers_left n)
+    ∙ (ap (λ (ats : List AttributeRecord). any_file (map (attribute_in ats) (numbers_left n))) c.new.ensures.records
+    ∙ (ap (λ (ns : List ℕ). any_file (map (attribute_in s.attributes.now) ns)) (c.new.ensures.list ∙ f.2)
+    ∙ sym (ap any_file v)))))

@@ -9,14 +9,14 @@ pub returns-then-self : goal.returns-then-self
 unfolding nil
 returns-then-self c =
     let s = c.args.self.now in
-    let z = ap length (free_list s.units.now s.unit_count s.entries.now s.entry_count s.attributes.now s.attribute_count s.free (length s.pool.now) c.requires c.if-self.true) in
+    let z = ap length (free_list s.sound c.if-self.true) in
     ap not (ne_eqb s.free 65535 c.if-self.true ∙ sym (ne_eqb _ 0 (λ q. omega arith)))
 
 pub returns-else-self : goal.returns-else-self
 unfolding nil
 returns-else-self c =
     let s = c.args.self.now in
-    let z = ap length (none_free s.units.now s.unit_count s.entries.now s.entry_count s.attributes.now s.attribute_count s.free (length s.pool.now) c.requires c.if-self.false) in
+    let z = ap length (none_free s.sound c.if-self.false) in
     room (length s.attributes.now) s.attribute_count (length (kids (holdings s.entries.now s.entry_count s.attributes.now s.free) (length s.attributes.now) nil)) z
   where
     room : (a k l : ℕ) → l ≡ 0 → ltb k a ≡ not (eqb ((a - k) + l) 0)

@@ -9,6 +9,6 @@ overflow_add-result c =
     let t = c.args.self.now in
     let s = t.records in
     let z = chain_short (lists s).next (length s.attributes.now) ((lists s).first nil) in
-    let y = t.attributes_fit in
+    let y = t.records.sound.attributes_fit in
     let r = c.count_free.ensures in
     omega arith

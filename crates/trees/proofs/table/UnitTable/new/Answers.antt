@@ -8,11 +8,11 @@ use Rattle.trees.proofs.table.UnitTable.new.Goals as goal
 
 pub invariant_of-result : goal.invariant_of-result
 unfolding nil
-invariant_of-result c =
-    let s = empty_sound (take c.min-n.result c.args.entries.now) (take c.min-k.result c.args.attributes.now) (take c.min-m.result c.args.units.now) (length (take c.min-l.result c.args.pool.now))
-    (length_below c.args.units.now 64 c.min-m.result c.min-m.ensures) (length_below c.args.entries.now 65535 c.min-n.result c.min-n.ensures)
-    (length_below c.args.attributes.now 65535 c.min-k.result c.min-k.ensures) (length_below c.args.pool.now 1048576 c.min-l.result c.min-l.ensures) in
-    record { units_fit = s.units_fit; entries_fit = s.entries_fit; attributes_fit = s.attributes_fit; pool_fits = s.pool_fits; kin_ends = s.kin_ends; kin_owned = s.kin_owned; lasts = s.lasts; parented = s.parented; listed = s.listed; akin = s.akin; housed = s.housed; rooted = s.rooted; held_ends = s.held_ends; held_owned = s.held_owned }
+invariant_of-result c = record {
+  sound = empty_sound (take c.min-n.result c.args.entries.now) (take c.min-k.result c.args.attributes.now) (take c.min-m.result c.args.units.now) (length (take c.min-l.result c.args.pool.now))
+      (length_below c.args.units.now 64 c.min-m.result c.min-m.ensures) (length_below c.args.entries.now 65535 c.min-n.result c.min-n.ensures)
+      (length_below c.args.attributes.now 65535 c.min-k.result c.min-k.ensures) (length_below c.args.pool.now 1048576 c.min-l.result c.min-l.ensures);
+}
 
 pub returns : goal.returns
 unfolding nil

@@ -15,9 +15,9 @@ returns c =
     let r = t.records in
     let u = c.args.unit.unit in
     let p = passed_as (view r) c.knows_unit.result (knows_unit (view r) c.args.unit) u c.knows_unit.ensures (passed (view r) c.knows_unit.result u c.in_ok-check.ensures) in
-    let at : Table → ℕ → Table × Result (UnitEntryId × Reservation) EditFault = λ v n. (v, Ok (record { table = r.number; unit = u; entry = n }, record { table = r.number; unit = u; entry = n })) in
+    let at : Table → ℕ → Table × Result (UnitEntryId × Reservation) EditFault = λ v n. (v, Ok (record { table = r.number; unit = u; entry = n }, record { id = record { table = r.number; unit = u; entry = n } })) in
     record {
-      outcome = ap (λ (v : Table). at v r.entry_count) c.grant.ensures.view ∙ (ap (at (grant (view r) u)) (sym (view_count r))
-          ∙ done (view r) (knows_unit (view r) c.args.unit) u ((eqb (view r).entries_left 0, TableFull) ∷ []) as_is (at (grant (view r) u) (length (view r).entries)) p (room r c.if-entry-self.false));
+      outcome = ap (λ (i : UnitEntryId). (view c.grant.new.self, Ok (i, record { id = i }))) c.name_entry-id.ensures ∙ (ap (λ (v : Table). at v r.entry_count) c.grant.ensures.view ∙ (ap (at (grant (view r) u)) (sym (view_count r))
+          ∙ done (view r) (knows_unit (view r) c.args.unit) u ((eqb (view r).entries_left 0, TableFull) ∷ []) as_is (at (grant (view r) u) (length (view r).entries)) p (room r c.if-entry-self.false)));
       declined = λ e. absurd (true≢false e);
     }

@@ -6,43 +6,37 @@ use Rattle.trees.specs.declared.records.EditFault.TheVariants.{SiblingName, Span
 use Rattle.trees.specs.Lists.{nil}
 use Rattle.trees.specs.Model.{Table, knows, entry_of, named, put, amended, as_is}
 use Rattle.trees.specs.View.{view}
-use Rattle.trees.proofs.Edits.{holds, known, passed, passed_as, done, fault}
+use Rattle.trees.proofs.Edits.{known, passed, passed_as, done, fault}
 use Rattle.trees.proofs.Holdings.{put_new}
-use Rattle.trees.proofs.Values.{is_named, not_named, found_in, amend_same, set_checks, set_named, set_room, set_full, set_sibling, set_span}
+use Rattle.trees.proofs.Values.{is_named, not_named, amend_same, set_checks, set_named, set_room, set_full, set_sibling, set_span}
 use Rattle.trees.proofs.table.UnitTable.try_set.Goals as goal
 
 pub check-requires : goal.check-requires
-check-requires c = λ e. (known c.args.self.now.records (holds c.args.self.now) c.args.id (sym c.knows.ensures ∙ e)).housed
+check-requires c = λ e. (known c.args.self.now.records c.args.id (sym c.knows.ensures ∙ e)).housed
 
-pub find-place-requires : goal.find-place-requires
-find-place-requires c =
+pub find-requires : goal.find-requires
+find-requires c =
     let t = c.args.self.now in
     let p = passed (view t.records) c.knows.result c.args.id.unit c.in_ok-check.ensures in
-    record { sound = holds t; used = (known t.records (holds t) c.args.id (sym c.knows.ensures ∙ p.1)).used }
+    record { used = (known t.records c.args.id (sym c.knows.ensures ∙ p.1)).used }
 
 pub replace-requires : goal.replace-requires
 unfolding nil
 replace-requires c =
     let t = c.args.self.now in
     let p = passed (view t.records) c.knows.result c.args.id.unit c.in_ok-check.ensures in
-    let w = c.find-place.ensures.1 c.if-place.true in
-    record {
-      sound = holds t;
-      used = (known t.records (holds t) c.args.id (sym c.knows.ensures ∙ p.1)).used;
-      small = found_in t.records (holds t) c.args.id.entry c.args.name c.find-place.result.before c.find-place.result.at w;
-      found = w;
-    }
+    record { used = (known t.records c.args.id (sym c.knows.ensures ∙ p.1)).used; found = c.in-Ok.ensures }
 
-pub returns-then-place : goal.returns-then-place
+pub returns-in-Ok : goal.returns-in-Ok
 unfolding nil
-returns-then-place c =
+returns-in-Ok c =
     let t = c.args.self.now in
     let r = t.records in
     let e = c.args.id.entry in
     let v : Attribute = record { name = c.args.name; value = c.args.value } in
     let p = passed (view r) c.knows.result c.args.id.unit c.in_ok-check.ensures in
-    let h = (known r (holds t) c.args.id (sym c.knows.ensures ∙ p.1)).used in
-    let n = is_named r e c.args.name c.find-place.result.before c.find-place.result.at h (c.find-place.ensures.1 c.if-place.true) in
+    let h = (known r c.args.id (sym c.knows.ensures ∙ p.1)).used in
+    let n = is_named r e c.args.name _ h c.in-Ok.ensures in
     let D : ℕ → Table × Result Unit EditFault = λ s. (amended (view r) e (put v) s, Ok tt) in
     record {
       outcome = ap (λ (x : Table). (x, Ok tt)) c.replace.ensures.view
@@ -60,8 +54,8 @@ returns-then-not-has_spare c =
     let e = c.args.id.entry in
     let v : Attribute = record { name = c.args.name; value = c.args.value } in
     let p = passed (view r) c.knows.result c.args.id.unit c.in_ok-check.ensures in
-    let h = (known r (holds t) c.args.id (sym c.knows.ensures ∙ p.1)).used in
-    let n = not_named r e c.args.name c.find-place.result.before h (c.find-place.ensures.0 c.if-place.false) in
+    let h = (known r c.args.id (sym c.knows.ensures ∙ p.1)).used in
+    let n = not_named r e c.args.name _ h c.in-Err.ensures in
     record {
       outcome = fault (view r) (knows (view r) c.args.id) c.args.id.unit (set_checks (view r) e c.args.name c.args.value) as_is
           (amended (view r) e (put v) (cond (named c.args.name (entry_of (view r) e).attributes) (view r).attributes_left ((view r).attributes_left - 1)), Ok tt) TableFull
@@ -76,18 +70,18 @@ append-requires c =
     let t = c.args.self.now in
     let p = passed (view t.records) c.knows.result c.args.id.unit c.in_ok-check.ensures in
     let ne = eqb-false _ 0 (not-true _ (sym c.has_spare.ensures ∙ c.if-not-has_spare.false)) in
-    record { sound = holds t; used = (known t.records (holds t) c.args.id (sym c.knows.ensures ∙ p.1)).used; room = omega arith; last = (c.find-place.ensures.0 c.if-place.false).last }
+    record { used = (known t.records c.args.id (sym c.knows.ensures ∙ p.1)).used; room = omega arith; last = c.in-Err.ensures.last }
 
-pub returns : goal.returns
+pub returns-else-not-has_spare : goal.returns-else-not-has_spare
 unfolding nil
-returns c =
+returns-else-not-has_spare c =
     let t = c.args.self.now in
     let r = t.records in
     let e = c.args.id.entry in
     let v : Attribute = record { name = c.args.name; value = c.args.value } in
     let p = passed (view r) c.knows.result c.args.id.unit c.in_ok-check.ensures in
-    let h = (known r (holds t) c.args.id (sym c.knows.ensures ∙ p.1)).used in
-    let n = not_named r e c.args.name c.find-place.result.before h (c.find-place.ensures.0 c.if-place.false) in
+    let h = (known r c.args.id (sym c.knows.ensures ∙ p.1)).used in
+    let n = not_named r e c.args.name _ h c.in-Err.ensures in
     let D : ℕ → Table × Result Unit EditFault = λ s. (amended (view r) e (put v) s, Ok tt) in
     record {
       outcome = ap (λ (x : Table). (x, Ok tt)) (c.append.ensures.view ∙ sym (amend_same (view r) e (put v) (λ xs. xs ++ v ∷ []) ((view r).attributes_left - 1) (put_new v (entry_of (view r) e).attributes n)))

@@ -1,8 +1,0 @@
-use Rattle.std.proofs.Common.{ℕ, ◌<◌, ◌≢◌, slice_index_or}
-use Rattle.scripts.specs.Verbs.{word_of}
-use Rattle.scripts.specs.declared.verb.Verb.TheVariants as verb
-use Rattle.scripts.proofs.verb.verb_named.Given as goal
-
--- no row passed so far is written so
-abbrev pub invariant-loop-it : goal.invariant-loop-it
-invariant-loop-it l = (k : ℕ) → k < l.it-index → word_of (slice_index_or l.it-items k verb.Unit) ≢ l.word
