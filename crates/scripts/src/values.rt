@@ -24,7 +24,8 @@ pub fn flag(text: &str) -> Result<bool, Complaint>
     }
 }
 
-// Puts the bytes that a text says at the end of the pool.
+// Puts the bytes that a text says at the end of the pool. The pool is the caller's own, one for all lines, and is
+// only lent: that it grows at its end stands in each contract, and a type around it would be taken apart again.
 fn pooled(heap: Global, pool: &mut Vec<u8>, text: &str) -> Result<Span, Complaint>
     ensures grows { (xs : List ℕ) × (pool.new.items ≡ pool.old.items ++ xs) }
     ensures bytes { IfOk result (λ s. bytes_named text.now ≡ Some (bytes_at pool.new.items s)) }

@@ -108,7 +108,8 @@ impl<'a> UnitTable<'a> {
         }
     }
 
-    // A unit's record, if the table has the unit.
+    // A unit's record, if the table has the unit. The public `unit` forwards to this: it has no file of answers, so
+    // that what is wrong in it is told at its own line.
     pub(crate) fn unit_record(&self, id: UnitId) -> Option<UnitRecord>
         ensures { result ≡ unit_if (view self.now.records) id }
     {

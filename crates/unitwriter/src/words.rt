@@ -126,7 +126,7 @@ impl fmt::Display for Place {
     }
 }
 
-// Two spaces for each level.
+// Two spaces for each level: a text of that length would have to be made first.
 #[derive(Clone, Copy)]
 pub struct Indent(pub usize);
 
