@@ -22,7 +22,13 @@ impl<'a> Roll<'a> {
     pub fn count(self, unit: u32) -> usize
         ensures { result ≡ times unit self.entry.homes.now }
     {
-        self.homes.iter().filter(|home| **home == unit).count()
+        let mut n = 0;
+        for home in self.homes {
+            if *home == unit {
+                n += 1;
+            }
+        }
+        n
     }
 
     // The script's name of an entry: its unit, and how many of the unit were granted before it.

@@ -201,15 +201,15 @@ pub struct AttributeRecord {
 // wherever a step begins or ends.
 #[derive(Drop)]
 pub struct Records<'a> {
-    pub(crate) units: &'a mut [UnitRecord],
-    pub(crate) entries: &'a mut [EntryRecord],
-    pub(crate) attributes: &'a mut [AttributeRecord],
-    pub(crate) pool: &'a [u8],
-    pub(crate) number: u32,
-    pub(crate) closed: bool,
-    pub(crate) unit_count: usize,
-    pub(crate) entry_count: usize,
-    pub(crate) attribute_count: usize,
-    pub(crate) free: u16,
+    pub units: &'a mut [UnitRecord],
+    pub entries: &'a mut [EntryRecord],
+    pub attributes: &'a mut [AttributeRecord],
+    pub pool: &'a [u8],
+    pub number: u32,
+    pub closed: bool,
+    pub unit_count: usize,
+    pub entry_count: usize,
+    pub attribute_count: usize,
+    pub free: u16,
     ghost sound: { Sound units.now unit_count entries.now entry_count attributes.now attribute_count free (length pool.now) },
 }

@@ -2,7 +2,7 @@ use super::scene::Scene;
 use super::words::{Code, Indent, Place, Quoted, bare, coded, role};
 use numbers::{Format, RunTimeEndian};
 use scripts::{Kind, Opening, Payload, dwarf, kind_of, payload_of};
-use sessions::{Hex, bytes_of};
+use sessions::{Hex, attributes, bytes_of, events};
 use std::io;
 use trees::{
     Attribute, AttributeValue, Counts, Event, Left, LineProgram, UnitEntryId, UnitId, UnitRecord,
@@ -119,8 +119,9 @@ impl Scene<'_, '_> {
     // The reached tree of a unit.
     fn print_tree(self, unit: UnitId) -> io::Result<()> {
         let mut depth = 0usize;
-        for event in self.table().walk(unit) {
-            match event {
+        let found = events(self.rt.alloc(), self.table(), unit)?;
+        for event in found.as_slice() {
+            match *event {
                 Event::Enter(e) => {
                     let id = UnitEntryId {
                         table: unit.table,
@@ -146,8 +147,9 @@ impl Scene<'_, '_> {
         if let Some(name) = self.roll().name_of(id.entry as usize) {
             print_head(self.rt, name.entry, depth, code, sibling)?;
         }
-        for item in self.table().attrs(id) {
-            self.print_attribute(depth, item)?;
+        let found = attributes(self.rt.alloc(), self.table(), id)?;
+        for item in found.as_slice() {
+            self.print_attribute(depth, *item)?;
         }
         Ok(())
     }
@@ -211,7 +213,8 @@ impl Scene<'_, '_> {
 
     // The name of an entry, if it has one.
     fn print_name(self, id: UnitEntryId) -> io::Result<()> {
-        for attribute in self.table().attrs(id).filter(|it| it.name == NAME) {
+        let found = attributes(self.rt.alloc(), self.table(), id)?;
+        for attribute in found.as_slice().iter().filter(|it| it.name == NAME) {
             print!(self.rt; " ")?;
             self.print_bytes(attribute.value)?;
         }

@@ -1,4 +1,4 @@
-ghost use Rattle.std.specs.Prelude.{◌≡◌, ◌+◌, ◌<◌, [], ◌∷◌, ◌++◌, length};
+ghost use Rattle.std.specs.Prelude.{◌≡◌, ◌+◌, ◌<◌, length};
 ghost use Rattle.numbers.specs.Leb.{leb, read_leb, Reads, Shortest};
 ghost use Rattle.numbers.specs.Encoded.{encoded};
 
@@ -20,32 +20,18 @@ impl Leb128 {
         ensures reads { Reads (read_leb S.groups) val (encoded result) }
         ensures shortest { Shortest (read_leb S.groups) val (encoded result) }
     {
-        let mut leb = Leb128::empty();
+        let mut bytes = [0; 10];
+        let mut len = 0;
         while !val.is_last() {
-            leb.push(continued(val.low()));
+            bytes[len] = continued(val.low());
+            len += 1;
             val = val.rest();
         }
-        leb.push(val.low());
-        leb
-    }
-
-    // No bytes yet.
-    fn empty() -> Leb128
-        ensures { encoded result ≡ [] }
-    {
+        bytes[len] = val.low();
         Leb128 {
-            bytes: [0; 10],
-            len: 0,
+            bytes,
+            len: len + 1,
         }
-    }
-
-    // One byte more.
-    fn push(&mut self, byte: u8)
-        requires { length (encoded self.old) < 10 }
-        ensures { encoded self.new ≡ encoded self.old ++ (byte ∷ []) }
-    {
-        self.bytes[self.len] = byte;
-        self.len += 1;
     }
 
     pub fn bytes(&self) -> &[u8]
@@ -57,6 +43,6 @@ impl Leb128 {
     pub fn len(&self) -> usize
         ensures { result ≡ length (encoded self.now) }
     {
-        self.bytes().len()
+        self.len
     }
 }
